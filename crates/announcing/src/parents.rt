@@ -9,11 +9,18 @@ ghost use Rattle.lent_lists.specs.Lists.{hashes_in};
 ghost use Rattle.announcing.specs.Answers.{Answered, KeysListed, one_parent};
 
 use crate::parent;
+use ident::connection::Connection;
 
 // Requests one parent as t; if kept, a request under its Txid key is marked, even where the candidate sits under the Wtxid key.
-pub fn announce_parent(s: &mut [u8], n: u64, clock: u64, h: ident::Hash, priority: u64) -> bool
-    requires { Kept s.old × (1 ≤ n) }
-    ensures { Answered s.old s.new result (λ m t. one_parent m n clock (hash_num h) priority t) }
+pub fn announce_parent(
+    s: &mut [u8],
+    n: Connection,
+    clock: u64,
+    h: ident::Hash,
+    priority: u64,
+) -> bool
+    requires { Kept s.old }
+    ensures { Answered s.old s.new result (λ m t. one_parent m n.number clock (hash_num h) priority t) }
 {
     let k = ident::Key::from(ident::Txid(h));
     let item = ident::Item {
@@ -21,7 +28,7 @@ pub fn announce_parent(s: &mut [u8], n: u64, clock: u64, h: ident::Hash, priorit
         hash: h,
     };
     let c = requests::Candidate {
-        connection: n,
+        connection: n.number,
         item,
         ready: clock,
         preferred: true,
@@ -35,9 +42,15 @@ pub fn announce_parent(s: &mut [u8], n: u64, clock: u64, h: ident::Hash, priorit
 }
 
 // Announces the distinct parents, from priority 0 on, and lists in `out` the keys of those kept. Answers how many these are.
-pub fn announce_parents(s: &mut [u8], n: u64, clock: u64, parents: &[u8], out: &mut [u8]) -> usize
-    requires { Kept s.old × (1 ≤ n) × (length (hashes_in parents.now) ≤ max_parents) × (key_bytes * length (hashes_in parents.now) ≤ length out.old) }
-    ensures { KeysListed s.old s.new out.old out.new result (λ m t. machine.announce_parents m n clock (hashes_in parents.now) t) }
+pub fn announce_parents(
+    s: &mut [u8],
+    n: Connection,
+    clock: u64,
+    parents: &[u8],
+    out: &mut [u8],
+) -> usize
+    requires { Kept s.old × (length (hashes_in parents.now) ≤ max_parents) × (key_bytes * length (hashes_in parents.now) ≤ length out.old) }
+    ensures { KeysListed s.old s.new out.old out.new result (λ m t. machine.announce_parents m n.number clock (hashes_in parents.now) t) }
 {
     let count = lent_lists::hashes(parents);
     let mut kept = 0;

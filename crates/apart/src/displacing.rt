@@ -110,7 +110,7 @@ fn announce_unaided(s: &mut [u8], n: Connection, clock: u64, h: ident::Hash, pri
     if shut_out(s, h, n.number) {
         return false;
     }
-    announcing::parents::announce_parent(s, n.number, clock, h, priority)
+    announcing::parents::announce_parent(s, n, clock, h, priority)
 }
 
 // Those before the j-th parent that wait come in; then it is announced, where nobody can be evicted.

@@ -118,5 +118,5 @@ pub fn announce_next(s: &mut [u8], p: Parents, new: &mut Waiting, j: usize) -> b
     }
     new.let_in(s, p, j);
     let h = p.hash(j);
-    announcing::parents::announce_parent(s, p.connection.number, p.clock, h, j as u64)
+    announcing::parents::announce_parent(s, p.connection, p.clock, h, j as u64)
 }

@@ -10,6 +10,7 @@ ghost use Rattle.store.specs.Shown.{Kept};
 ghost use Rattle.requests.specs.Changes.{Tells};
 ghost use Rattle.claims.specs.Changes.{Becomes};
 
+use ident::connection::Connection;
 use lent_lists::{KEYS, LIST};
 use package_stages::Stage;
 
@@ -31,7 +32,9 @@ fn hand_on(s: &mut [u8], k: ident::Key, clock: u64)
 {
     let r = package_stages::request_at(s, k);
     if let Some(owner) = r.owner {
-        let n = owner.connection;
+        let n = Connection {
+            number: owner.connection,
+        };
         let mut list = [0; LIST];
         let parents = failing::parents::parents_for(s, k, n, &mut list);
         let mut kept = [0; KEYS];

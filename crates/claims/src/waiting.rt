@@ -20,6 +20,7 @@ ghost use Rattle.package_stages.specs.Changes.{combined_of};
 ghost use Rattle.announcing.specs.Answers.{KeysListed};
 ghost use Rattle.claims.specs.Awaited.{awaiting, is_claim_row, Noted, ClaimsNoted, last_among, key_found, ClaimsAre, ListedOn, entries_in, given_in, hash_found, last_of, ClaimsFit};
 
+use ident::connection::Connection;
 use lent_lists::{KEY, LIST};
 use package_stages::Stage;
 
@@ -106,14 +107,21 @@ fn latest(keys: &[u8], sums: &[u8], c: ident::Hash) -> Option<ident::Hash>
 }
 
 // failed_with_parents at the Wtxid key with hash h, unless it has failed before; lists its keys in `out` behind c others.
-fn fail_claim(s: &mut [u8], n: u64, h: ident::Hash, clock: u64, out: &mut [u8], c: usize) -> usize
-    requires { Kept s.old × (1 ≤ n) × (key_bytes * c ≤ length out.old) × Tells s.old (λ t. owner_is n (at (wtxid (hash_num h)) t).owner ≡ true
+fn fail_claim(
+    s: &mut [u8],
+    n: Connection,
+    h: ident::Hash,
+    clock: u64,
+    out: &mut [u8],
+    c: usize,
+) -> usize
+    requires { Kept s.old × (key_bytes * c ≤ length out.old) × Tells s.old (λ t. owner_is n.number (at (wtxid (hash_num h)) t).owner ≡ true
         → key_bytes * (c + (max_parents + 1)) ≤ length out.old) × (c ≤ (max_parents + 1) * max_places) }
-    ensures { ListedOn s.old s.new out.old out.new c result (λ m t. failed_with_parents m (wtxid (hash_num h)) n clock t) }
+    ensures { ListedOn s.old s.new out.old out.new c result (λ m t. failed_with_parents m (wtxid (hash_num h)) n.number clock t) }
 {
     let k = ident::Key::from(ident::Wtxid(h));
     let q = package_stages::request_at(s, k);
-    if !q.is_owned_by(n) {
+    if !q.is_owned_by(n.number) {
         return c;
     }
     let x = c * KEY;
@@ -125,7 +133,7 @@ fn fail_claim(s: &mut [u8], n: u64, h: ident::Hash, clock: u64, out: &mut [u8], 
 // The same at the key of the last claim noted with the combined hash sum, if there is one.
 fn fail_latest(
     s: &mut [u8],
-    n: u64,
+    n: Connection,
     sum: ident::Hash,
     clock: u64,
     keys: &[u8],
@@ -133,11 +141,11 @@ fn fail_latest(
     out: &mut [u8],
     c: usize,
 ) -> usize
-    requires { Kept s.old × (1 ≤ n) × (key_bytes * c ≤ length out.old) × (length (hashes_in sums.now) ≡ length (hashes_in keys.now))
+    requires { Kept s.old × (key_bytes * c ≤ length out.old) × (length (hashes_in sums.now) ≡ length (hashes_in keys.now))
         × ((k : Key) → last_among (hash_num sum) (hashes_in keys.now) (hashes_in sums.now) ≡ some k
-        → Tells s.old (λ t. owner_is n (at k t).owner ≡ true → key_bytes * (c + (max_parents + 1)) ≤ length out.old)) × (c ≤ (max_parents + 1) * max_places) }
+        → Tells s.old (λ t. owner_is n.number (at k t).owner ≡ true → key_bytes * (c + (max_parents + 1)) ≤ length out.old)) × (c ≤ (max_parents + 1) * max_places) }
     ensures { ListedOn s.old s.new out.old out.new c result
-        (λ m t. fail_each m n clock (some_keys (last_among (hash_num sum) (hashes_in keys.now) (hashes_in sums.now) ∷ [])) t) }
+        (λ m t. fail_each m n.number clock (some_keys (last_among (hash_num sum) (hashes_in keys.now) (hashes_in sums.now) ∷ [])) t) }
 {
     match latest(keys, sums, sum) {
         Some(h) => fail_claim(s, n, h, clock, out, c),
@@ -179,7 +187,7 @@ fn entry_at(given: &[u8], items: bool, i: usize) -> Option<ident::Hash>
 // fail_latest for the combined hash that an entry gives, if it gives one.
 fn fail_entry(
     s: &mut [u8],
-    n: u64,
+    n: Connection,
     given: Option<ident::Hash>,
     clock: u64,
     keys: &[u8],
@@ -187,11 +195,11 @@ fn fail_entry(
     out: &mut [u8],
     c: usize,
 ) -> usize
-    requires { Kept s.old × (1 ≤ n) × (key_bytes * c ≤ length out.old) × (length (hashes_in sums.now) ≡ length (hashes_in keys.now))
+    requires { Kept s.old × (key_bytes * c ≤ length out.old) × (length (hashes_in sums.now) ≡ length (hashes_in keys.now))
         × ((k : Key) → last_of (hash_found given) (hashes_in keys.now) (hashes_in sums.now) ≡ some k
-        → Tells s.old (λ t. owner_is n (at k t).owner ≡ true → key_bytes * (c + (max_parents + 1)) ≤ length out.old)) × (c ≤ (max_parents + 1) * max_places) }
+        → Tells s.old (λ t. owner_is n.number (at k t).owner ≡ true → key_bytes * (c + (max_parents + 1)) ≤ length out.old)) × (c ≤ (max_parents + 1) * max_places) }
     ensures { ListedOn s.old s.new out.old out.new c result
-        (λ m t. fail_each m n clock (some_keys (last_of (hash_found given) (hashes_in keys.now) (hashes_in sums.now) ∷ [])) t) }
+        (λ m t. fail_each m n.number clock (some_keys (last_of (hash_found given) (hashes_in keys.now) (hashes_in sums.now) ∷ [])) t) }
 {
     match given {
         Some(sum) => fail_latest(s, n, sum, clock, keys, sums, out, c),
@@ -202,7 +210,7 @@ fn fail_entry(
 // The claims noted fail, in the order in which their combined hashes are given.
 fn fail_given(
     s: &mut [u8],
-    n: u64,
+    n: Connection,
     given: &[u8],
     items: bool,
     clock: u64,
@@ -210,8 +218,8 @@ fn fail_given(
     sums: &[u8],
     out: &mut [u8],
 ) -> usize
-    requires { Kept s.old × (1 ≤ n) × ClaimsFit (length (given_in items given.now)) s.old out.old × Tells s.old (λ t. ClaimsAre n t (hashes_in keys.now) (hashes_in sums.now)) }
-    ensures { KeysListed s.old s.new out.old out.new result (λ m t. failed_package_claims m n (given_in items given.now) clock t) }
+    requires { Kept s.old × ClaimsFit (length (given_in items given.now)) s.old out.old × Tells s.old (λ t. ClaimsAre n.number t (hashes_in keys.now) (hashes_in sums.now)) }
+    ensures { KeysListed s.old s.new out.old out.new result (λ m t. failed_package_claims m n.number (given_in items given.now) clock t) }
 {
     let count = entries(given, items);
     let mut c = 0;
@@ -223,13 +231,20 @@ fn fail_given(
 }
 
 // The Awaiting claims of the connection n with one of the combined hashes given fail: items of type 6 give them, or else hashes.
-fn fail_claims(s: &mut [u8], n: u64, given: &[u8], items: bool, clock: u64, out: &mut [u8]) -> usize
-    requires { Kept s.old × (1 ≤ n) × ClaimsFit (length (given_in items given.now)) s.old out.old }
-    ensures { KeysListed s.old s.new out.old out.new result (λ m t. failed_package_claims m n (given_in items given.now) clock t) }
+fn fail_claims(
+    s: &mut [u8],
+    n: Connection,
+    given: &[u8],
+    items: bool,
+    clock: u64,
+    out: &mut [u8],
+) -> usize
+    requires { Kept s.old × ClaimsFit (length (given_in items given.now)) s.old out.old }
+    ensures { KeysListed s.old s.new out.old out.new result (λ m t. failed_package_claims m n.number (given_in items given.now) clock t) }
 {
     let mut keys = [0; LIST];
     let mut sums = [0; LIST];
-    let m = claims_of(s, n, &mut keys, &mut sums);
+    let m = claims_of(s, n.number, &mut keys, &mut sums);
     let e = m * ident::HASH_BYTES;
     fail_given(s, n, given, items, clock, &keys[0..e], &sums[0..e], out)
 }
@@ -238,21 +253,27 @@ fn fail_claims(s: &mut [u8], n: u64, given: &[u8], items: bool, clock: u64, out:
 // announced for n. Lists in `out` the key of each and behind it its parents' keys; answers how many these are.
 pub fn failed_package_claims(
     s: &mut [u8],
-    n: u64,
+    n: Connection,
     given: &[u8],
     clock: u64,
     out: &mut [u8],
 ) -> usize
-    requires { Kept s.old × (1 ≤ n) × (key_bytes * ((max_parents + 1) * places_in s.old) ≤ length out.old) }
-    ensures { KeysListed s.old s.new out.old out.new result (λ m t. failed_package_claims m n (hashes_in given.now) clock t) }
+    requires { Kept s.old × (key_bytes * ((max_parents + 1) * places_in s.old) ≤ length out.old) }
+    ensures { KeysListed s.old s.new out.old out.new result (λ m t. failed_package_claims m n.number (hashes_in given.now) clock t) }
 {
     fail_claims(s, n, given, false, clock, out)
 }
 
 // The same for the packages among items, 40 bytes each: those of type 6, by their hashes.
-pub fn packages_not_found(s: &mut [u8], n: u64, items: &[u8], clock: u64, out: &mut [u8]) -> usize
-    requires { Kept s.old × (1 ≤ n) × Tells s.old (λ t. key_bytes * (length (packages_in (items_in items.now)) + max_parents * places_held t) ≤ length out.old) }
-    ensures { KeysListed s.old s.new out.old out.new result (λ m t. failed_package_claims m n (packages_in (items_in items.now)) clock t) }
+pub fn packages_not_found(
+    s: &mut [u8],
+    n: Connection,
+    items: &[u8],
+    clock: u64,
+    out: &mut [u8],
+) -> usize
+    requires { Kept s.old × Tells s.old (λ t. key_bytes * (length (packages_in (items_in items.now)) + max_parents * places_held t) ≤ length out.old) }
+    ensures { KeysListed s.old s.new out.old out.new result (λ m t. failed_package_claims m n.number (packages_in (items_in items.now)) clock t) }
 {
     fail_claims(s, n, items, true, clock, out)
 }

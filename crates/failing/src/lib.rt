@@ -17,6 +17,7 @@ ghost use Rattle.package_stages.specs.Changes.{closed};
 ghost use Rattle.announcing.specs.Answers.{Answered, KeysListed};
 ghost use Rattle.failing.specs.Changes.{led};
 
+use ident::connection::Connection;
 use lent_lists::{KEY, LIST};
 use package_stages::Stage;
 
@@ -168,13 +169,13 @@ pub fn failed_package_info(s: &mut [u8], k: ident::Key, n: u64, clock: u64) -> b
 fn announce_behind(
     s: &mut [u8],
     k: ident::Key,
-    n: u64,
+    n: Connection,
     clock: u64,
     list: &[u8],
     out: &mut [u8],
 ) -> usize
-    requires { Kept s.old × (1 ≤ n) × (length (hashes_in list.now) ≤ max_parents) × (key_bytes * (length (hashes_in list.now) + 1) ≤ length out.old) }
-    ensures { KeysListed s.old s.new out.old out.new result (λ m t. led (key_num k) (machine.announce_parents m n clock (hashes_in list.now) t)) }
+    requires { Kept s.old × (length (hashes_in list.now) ≤ max_parents) × (key_bytes * (length (hashes_in list.now) + 1) ≤ length out.old) }
+    ensures { KeysListed s.old s.new out.old out.new result (λ m t. led (key_num k) (machine.announce_parents m n.number clock (hashes_in list.now) t)) }
 {
     lent_lists::put_key(out, 0, k);
     let y = out.len();
@@ -184,13 +185,19 @@ fn announce_behind(
 
 // failed, and the parents of the package announced for the same connection. Lists in `out` the key and the parents' keys, if the
 // failing was carried out; answers how many these are.
-pub fn failed_with_parents(s: &mut [u8], k: ident::Key, n: u64, clock: u64, out: &mut [u8]) -> usize
-    requires { Kept s.old × (1 ≤ n) × (key_bytes * (max_parents + 1) ≤ length out.old) }
-    ensures { KeysListed s.old s.new out.old out.new result (λ m t. failed_with_parents m (key_num k) n clock t) }
+pub fn failed_with_parents(
+    s: &mut [u8],
+    k: ident::Key,
+    n: Connection,
+    clock: u64,
+    out: &mut [u8],
+) -> usize
+    requires { Kept s.old × (key_bytes * (max_parents + 1) ≤ length out.old) }
+    ensures { KeysListed s.old s.new out.old out.new result (λ m t. failed_with_parents m (key_num k) n.number clock t) }
 {
     let mut list = [0; LIST];
     let parents = parents::parents_for(s, k, n, &mut list);
-    if !failed(s, k, n, clock) {
+    if !failed(s, k, n.number, clock) {
         return 0;
     }
     announce_behind(s, k, n, clock, parents, out)
@@ -211,20 +218,20 @@ fn enqueued_by(s: &[u8], k: ident::Key, n: u64) -> bool
 // and the parents' keys, if there was such a package; answers how many these are.
 pub fn release_package(
     s: &mut [u8],
-    n: u64,
+    n: Connection,
     subject: ident::Wtxid,
     clock: u64,
     out: &mut [u8],
 ) -> usize
-    requires { Kept s.old × (1 ≤ n) × (key_bytes * (max_parents + 1) ≤ length out.old) }
-    ensures { KeysListed s.old s.new out.old out.new result (λ m t. release_package m n (hash_num subject.0) clock t) }
+    requires { Kept s.old × (key_bytes * (max_parents + 1) ≤ length out.old) }
+    ensures { KeysListed s.old s.new out.old out.new result (λ m t. release_package m n.number (hash_num subject.0) clock t) }
 {
     let k = ident::Key::from(subject);
-    if !enqueued_by(s, k, n) {
+    if !enqueued_by(s, k, n.number) {
         return 0;
     }
     let mut list = [0; LIST];
     let parents = parents::parents_for(s, k, n, &mut list);
-    leave_both(s, k, n, clock);
+    leave_both(s, k, n.number, clock);
     announce_behind(s, k, n, clock, parents, out)
 }

@@ -11,6 +11,8 @@ ghost use Rattle.requests.specs.Changes.{Tells};
 ghost use Rattle.package_stages.specs.Changes.{ReadAt};
 ghost use Rattle.failing.specs.Changes.{first_hashes};
 
+use ident::connection::Connection;
+
 // Copies the parents of the i-th place to the front of `list`, 32 bytes each; answers how many they are.
 fn copy_parents(s: &[u8], i: usize, list: &mut [u8]) -> usize
     requires { Kept s.now × (i < held_places_in s.now) × (hash_bytes * list_most ≤ length list.old) }
@@ -25,12 +27,12 @@ fn copy_parents(s: &[u8], i: usize, list: &mut [u8]) -> usize
 }
 
 // The same of the parents beside the flag or package of the request at k, if n owns it.
-fn copy_parents_for(s: &[u8], k: ident::Key, n: u64, list: &mut [u8]) -> usize
-    requires { Kept s.now × (1 ≤ n) × (hash_bytes * list_most ≤ length list.old) }
-    ensures { (result ≤ list_most) × Tells s.now (λ t. first_hashes result list.new ≡ machine.parents_for n (at (key_num k) t)) }
+fn copy_parents_for(s: &[u8], k: ident::Key, n: Connection, list: &mut [u8]) -> usize
+    requires { Kept s.now × (hash_bytes * list_most ≤ length list.old) }
+    ensures { (result ≤ list_most) × Tells s.now (λ t. first_hashes result list.new ≡ machine.parents_for n.number (at (key_num k) t)) }
 {
     let r = package_stages::request_at(s, k);
-    if !r.is_owned_by(n) {
+    if !r.is_owned_by(n.number) {
         return 0;
     }
     if r.stage.is_none() {
@@ -43,9 +45,9 @@ fn copy_parents_for(s: &[u8], k: ident::Key, n: u64, list: &mut [u8]) -> usize
 }
 
 // The parents beside the flag or package of the request at k, if n owns it: copied to the front of `list`, 32 bytes each.
-pub fn parents_for<'a>(s: &[u8], k: ident::Key, n: u64, list: &'a mut [u8]) -> &'a [u8]
-    requires { Kept s.now × (1 ≤ n) × (hash_bytes * list_most ≤ length list.old) }
-    ensures { (length (hashes_in result.now) ≤ max_parents) × Tells s.now (λ t. hashes_in result.now ≡ machine.parents_for n (at (key_num k) t)) }
+pub fn parents_for<'a>(s: &[u8], k: ident::Key, n: Connection, list: &'a mut [u8]) -> &'a [u8]
+    requires { Kept s.now × (hash_bytes * list_most ≤ length list.old) }
+    ensures { (length (hashes_in result.now) ≤ max_parents) × Tells s.now (λ t. hashes_in result.now ≡ machine.parents_for n.number (at (key_num k) t)) }
 {
     let count = copy_parents_for(s, k, n, list);
     let end = count * ident::HASH_BYTES;

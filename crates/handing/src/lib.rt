@@ -18,6 +18,7 @@ ghost use Rattle.handing.specs.Hands.{eased};
 ghost use Rattle.merging.specs.Merges.{InOrder};
 ghost use Rattle.handing.specs.Hands.{conns_of, conns_in, Peers, announce_for, Roomy, KeysMerged, Silent, Waits};
 
+use ident::connection::Connection;
 use lent_lists::{KEYS, LIST};
 
 // Bytes of eight connections.
@@ -45,9 +46,16 @@ fn copy_conns(s: &[u8], k: ident::Key, conns: &mut [u8]) -> usize
 
 // Announces the parents for the connection x, and puts the keys of those kept in order among the first n of u. Answers how many
 // keys there are then.
-fn announce_for(s: &mut [u8], x: u64, clock: u64, list: &[u8], u: &mut [u8], n: usize) -> usize
-    requires { Kept s.old × (1 ≤ x) × (length (hashes_in list.now) ≤ max_parents) × InOrder u.old n × Roomy s.old u.old n (λ m t. announce_parents m x clock (hashes_in list.now) t) }
-    ensures { KeysMerged s.old s.new u.old u.new n result (λ m t. announce_parents m x clock (hashes_in list.now) t) }
+fn announce_for(
+    s: &mut [u8],
+    x: Connection,
+    clock: u64,
+    list: &[u8],
+    u: &mut [u8],
+    n: usize,
+) -> usize
+    requires { Kept s.old × (length (hashes_in list.now) ≤ max_parents) × InOrder u.old n × Roomy s.old u.old n (λ m t. announce_parents m x.number clock (hashes_in list.now) t) }
+    ensures { KeysMerged s.old s.new u.old u.new n result (λ m t. announce_parents m x.number clock (hashes_in list.now) t) }
 {
     let mut keys = no_keys();
     let c = announcing::parents::announce_parents(s, x, clock, list, &mut keys);
@@ -70,21 +78,28 @@ fn announce_each(
 {
     let mut r = n;
     for i in 0..q {
-        let x = words::get(conns, i);
-        r = announce_for(s, x, clock, list, u, r);
+        let number = words::get(conns, i);
+        r = announce_for(s, Connection { number }, clock, list, u, r);
     }
     r
 }
 
 // The owner n of the request at k fails there (an Enqueued package stays), and the parents are announced for every candidate left;
 // the keys of those kept are put in order among the first c of u. Answers how many keys there are then.
-pub fn drop_owned(s: &mut [u8], k: ident::Key, n: u64, clock: u64, u: &mut [u8], c: usize) -> usize
-    requires { Kept s.old × (1 ≤ n) × Tells s.old (λ t. owner_is n (at (key_num k) t).owner ≡ true) × InOrder u.old c × Roomy s.old u.old c (λ m t. drop_at_key m n clock (key_num k) t) }
-    ensures { KeysMerged s.old s.new u.old u.new c result (λ m t. drop_at_key m n clock (key_num k) t) }
+pub fn drop_owned(
+    s: &mut [u8],
+    k: ident::Key,
+    n: Connection,
+    clock: u64,
+    u: &mut [u8],
+    c: usize,
+) -> usize
+    requires { Kept s.old × Tells s.old (λ t. owner_is n.number (at (key_num k) t).owner ≡ true) × InOrder u.old c × Roomy s.old u.old c (λ m t. drop_at_key m n.number clock (key_num k) t) }
+    ensures { KeysMerged s.old s.new u.old u.new c result (λ m t. drop_at_key m n.number clock (key_num k) t) }
 {
     let mut list = [0u8; LIST];
     let parents = failing::parents::parents_for(s, k, n, &mut list);
-    failing::failed(s, k, n, clock);
+    failing::failed(s, k, n.number, clock);
     let mut conns = [0u8; CONNS];
     let q = copy_conns(s, k, &mut conns);
     announce_each(s, clock, parents, &conns, q, u, c)
@@ -108,26 +123,26 @@ fn has_key(r: regions::Row, k: regions::Key) -> bool
 }
 
 // Whether the connection n owns the request at k, by a search.
-fn search_owner(s: &[u8], k: ident::Key, n: u64) -> Seen
-    requires { Kept s.now × (1 ≤ n) }
-    ensures { Tells s.now (λ t. result.owner ≡ owner_is n (at (key_num k) t).owner) }
+fn search_owner(s: &[u8], k: ident::Key, n: Connection) -> Seen
+    requires { Kept s.now }
+    ensures { Tells s.now (λ t. result.owner ≡ owner_is n.number (at (key_num k) t).owner) }
 {
     let r = package_stages::request_at(s, k);
     Seen {
-        owner: r.is_owned_by(n),
+        owner: r.is_owned_by(n.number),
         next: r.to,
     }
 }
 
 // The same by the first row of n from `guess` on, if that is one of the key: where keys are asked for in order, that row is the next one of n.
-fn is_owner(s: &[u8], k: ident::Key, n: u64, guess: Option<usize>) -> Seen
-    requires { Kept s.now × (1 ≤ n) }
-    ensures { Tells s.now (λ t. result.owner ≡ owner_is n (at (key_num k) t).owner) }
+fn is_owner(s: &[u8], k: ident::Key, n: Connection, guess: Option<usize>) -> Seen
+    requires { Kept s.now }
+    ensures { Tells s.now (λ t. result.owner ≡ owner_is n.number (at (key_num k) t).owner) }
 {
     let rows = store::head::rows(s);
     let from = guess.unwrap_or(rows);
     if from < rows {
-        let i = store::rows::find_row(s, from, rows, n);
+        let i = store::rows::find_row(s, from, rows, n.number);
         if i < rows {
             let r = store::rows::row_at(s, i);
             let key = requests::key_words(k);
@@ -143,9 +158,9 @@ fn is_owner(s: &[u8], k: ident::Key, n: u64, guess: Option<usize>) -> Seen
 }
 
 // Whether the connection n has no parents to hand on at k.
-fn is_childless(s: &[u8], k: ident::Key, n: u64) -> bool
-    requires { Kept s.now × (1 ≤ n) }
-    ensures { result ≡ true → Tells s.now (λ t. parents_for n (at (key_num k) t) ≡ []) }
+fn is_childless(s: &[u8], k: ident::Key, n: Connection) -> bool
+    requires { Kept s.now }
+    ensures { result ≡ true → Tells s.now (λ t. parents_for n.number (at (key_num k) t) ≡ []) }
 {
     let mut list = [0u8; LIST];
     failing::parents::parents_for(s, k, n, &mut list).is_empty()
@@ -162,9 +177,9 @@ fn is_single(s: &[u8], k: ident::Key) -> bool
 }
 
 // Whether nothing is to be announced when the owner n leaves k: it has no parents to hand on, or nobody to hand them to.
-fn is_silent(s: &[u8], k: ident::Key, n: u64) -> bool
-    requires { Kept s.now × (1 ≤ n) }
-    ensures { result ≡ true → Tells s.now (λ t. owner_is n (at (key_num k) t).owner ≡ true → Silent n (at (key_num k) t)) }
+fn is_silent(s: &[u8], k: ident::Key, n: Connection) -> bool
+    requires { Kept s.now }
+    ensures { result ≡ true → Tells s.now (λ t. owner_is n.number (at (key_num k) t).owner ≡ true → Silent n.number (at (key_num k) t)) }
 {
     is_single(s, k) || is_childless(s, k, n)
 }
@@ -183,9 +198,15 @@ fn ease(s: &mut [u8], k: ident::Key, n: u64, clock: u64)
 
 // Whether n may wait to be cut at k: it does not own the request there, or has nothing to announce and gives it back. If so, the row from
 // which to look for its next row.
-pub fn waits(s: &mut [u8], k: ident::Key, n: u64, clock: u64, guess: Option<usize>) -> Option<usize>
-    requires { Kept s.old × (1 ≤ n) }
-    ensures { Waits n clock (key_num k) s.old s.new (is_some result) }
+pub fn waits(
+    s: &mut [u8],
+    k: ident::Key,
+    n: Connection,
+    clock: u64,
+    guess: Option<usize>,
+) -> Option<usize>
+    requires { Kept s.old }
+    ensures { Waits n.number clock (key_num k) s.old s.new (is_some result) }
 {
     let seen = is_owner(s, k, n, guess);
     if !seen.owner {
@@ -194,9 +215,9 @@ pub fn waits(s: &mut [u8], k: ident::Key, n: u64, clock: u64, guess: Option<usiz
     if !is_silent(s, k, n) {
         return None;
     }
-    if !failing::releasable(s, k, n) {
+    if !failing::releasable(s, k, n.number) {
         return None;
     }
-    ease(s, k, n, clock);
+    ease(s, k, n.number, clock);
     Some(seen.next)
 }

@@ -175,10 +175,10 @@ module _ {n now : ℕ} {st : State} {u₀ b u : List ℕ} {own from i parents : 
 -- ---- the call
 
 module _ (n now : ℕ) (late : now < word) {b u u₁ : List ℕ} {own : ℕ} where
-  pub parted-asks : Kept b → 1 ≤ n → Need b u → OwnKeys n b u u₁ own → Kept b × (1 ≤ n) × Need b u₁ × OwnKeys n b u₁ u₁ own
-  parted-asks k p h o =
+  pub parted-asks : Kept b → Need b u → OwnKeys n b u u₁ own → Kept b × Need b u₁ × OwnKeys n b u₁ u₁ own
+  parted-asks k h o =
       let z = own_again n now late k.state k.sound k.writes o h in
-      (k, p, omega (arith, h, z.0), record { count = o.count; keys = λ st s w. (own_again n now late st s w o h).1 })
+      (k, omega (arith, h, z.0), record { count = o.count; keys = λ st s w. (own_again n now late st s w o h).1 })
 
   pub parted : Need b u → OwnKeys n b u u₁ own → {b₂ u₂ : List ℕ} {r : ℕ} → ((st : State) → Sound st → Writes b st → Ended n now st u₁ u₂ b₂ r)
       → Parted b b₂ u u₂ (record { own = own; parents = r }) (λ st. disconnected (limits_of st) n now st.table)

@@ -38,11 +38,11 @@ module _ {n now : ℕ} {st : State} {u₀ b u : List ℕ} {own from i parents : 
         owns : owner_is n (at k g.table).owner ≡ true
         owns = w.owns q (on_table g.table st) g.sound g.writes
 
-        pub drop-asks : 1 ≤ n → Kept b₂ × (1 ≤ n) × Tells b₂ (λ t. owner_is n (at k t).owner ≡ true) × InOrder (take (length u - own * key_bytes) (drop (own * key_bytes) u)) parents
+        pub drop-asks : Kept b₂ × Tells b₂ (λ t. owner_is n (at k t).owner ≡ true) × InOrder (take (length u - own * key_bytes) (drop (own * key_bytes) u)) parents
             × Roomy b₂ (take (length u - own * key_bytes) (drop (own * key_bytes) u)) parents (λ m t. drop_at_key m n now k t)
-        drop-asks p =
+        drop-asks =
             let x = next_key g k h e in
-            (cut_kept g late (length u) refl x cut owns, p, cut-owned g late (length u) refl x cut owns, part_order g late (length u) refl, cut-room g late (length u) refl x cut owns)
+            (cut_kept g late (length u) refl x cut owns, cut-owned g late (length u) refl x cut owns, part_order g late (length u) refl, cut-room g late (length u) refl x cut owns)
 
         pub turn_owned : {b₃ v : List ℕ} {s : ℕ} → KeysMerged b₂ b₃ (take (length u - own * key_bytes) (drop (own * key_bytes) u)) v parents s (λ m t. drop_at_key m n now k t)
             → Going n now st u₀ b₃ (take (own * key_bytes) u ++ (v ++ drop (length u - own * key_bytes) (drop (own * key_bytes) u))) own (i + 1) (i + 1) s

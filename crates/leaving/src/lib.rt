@@ -13,6 +13,7 @@ ghost use Rattle.store.specs.Shown.{limit_in, places_in, Kept};
 ghost use Rattle.leaving.specs.Parts.{PutIf, OwnKeys};
 ghost use Rattle.leaving.specs.Parting.{CutListed, Idle, Going, Underway, Ended, Parted};
 
+use ident::connection::Connection;
 use lent_lists::KEY;
 
 // ---- the keys under which a connection is a candidate
@@ -78,23 +79,23 @@ fn cut_listed(s: &mut [u8], n: u64, out: &[u8], from: usize, to: usize)
 // The i-th of its keys: it waits, or what waits is cut in one pass and n is dropped there.
 fn take_turn(
     s: &mut [u8],
-    n: u64,
+    n: Connection,
     clock: u64,
     out: &mut [u8],
     own: usize,
     i: usize,
     p: Progress,
 ) -> Progress
-    requires { Underway n clock s.old out.old own p.from i p.parents × (1 ≤ n) × (i < own) }
-    ensures { (st : State) (u₀ : List ℕ) → Going n clock st u₀ s.old out.old own p.from i p.parents
-        → Going n clock st u₀ s.new out.new own result.from (i + 1) result.parents }
+    requires { Underway n.number clock s.old out.old own p.from i p.parents × (i < own) }
+    ensures { (st : State) (u₀ : List ℕ) → Going n.number clock st u₀ s.old out.old own p.from i p.parents
+        → Going n.number clock st u₀ s.new out.new own result.from (i + 1) result.parents }
 {
     let k = lent_lists::key_at(out, i);
     let next = handing::waits(s, k, n, clock, p.next);
     if next.is_some() {
         return Progress { next, ..p };
     }
-    cut_listed(s, n, out, p.from, i);
+    cut_listed(s, n.number, out, p.from, i);
     let x = own * KEY;
     let y = out.len();
     let parents = handing::drop_owned(s, k, n, clock, &mut out[x..y], p.parents);
@@ -116,29 +117,29 @@ fn idle_keys(s: &[u8], n: u64, own: usize) -> usize
 
 // The keys under which the connection n is a candidate stand in `out`, `own` of them: it leaves each. Lists the keys of the parents
 // announced behind them, in order; answers how many these are.
-fn drop_keys(s: &mut [u8], n: u64, clock: u64, out: &mut [u8], own: usize) -> usize
-    requires { Kept s.old × (1 ≤ n) × (key_bytes * (min max_peer_announcements (limit_in s.old) + max_parents * places_in s.old) ≤ length out.old) × OwnKeys n s.old out.old out.old own }
-    ensures { (st : State) → Sound st → Writes s.old st → Ended n clock st out.old out.new s.new result }
+fn drop_keys(s: &mut [u8], n: Connection, clock: u64, out: &mut [u8], own: usize) -> usize
+    requires { Kept s.old × (key_bytes * (min max_peer_announcements (limit_in s.old) + max_parents * places_in s.old) ≤ length out.old) × OwnKeys n.number s.old out.old out.old own }
+    ensures { (st : State) → Sound st → Writes s.old st → Ended n.number clock st out.old out.new s.new result }
 {
     let mut p = Progress {
         from: 0,
         parents: 0,
         next: Some(0),
     };
-    for i in idle_keys(s, n, own)..own {
+    for i in idle_keys(s, n.number, own)..own {
         p = take_turn(s, n, clock, out, own, i, p);
     }
-    cut_listed(s, n, out, p.from, own);
+    cut_listed(s, n.number, out, p.from, own);
     p.parents
 }
 
 // The connection n is gone: it leaves every request that it is a candidate of. Lists in `out` the keys of these, and behind them the
 // keys of parents announced for the candidates left, in order and without repeats. (An Enqueued package stays with its owner.)
-pub fn disconnected(s: &mut [u8], n: u64, clock: u64, out: &mut [u8]) -> Left
-    requires { Kept s.old × (1 ≤ n) × (key_bytes * (min max_peer_announcements (limit_in s.old) + max_parents * places_in s.old) ≤ length out.old) }
-    ensures { Parted s.old s.new out.old out.new result (λ st. machine.disconnected (limits_of st) n clock st.table) }
+pub fn disconnected(s: &mut [u8], n: Connection, clock: u64, out: &mut [u8]) -> Left
+    requires { Kept s.old × (key_bytes * (min max_peer_announcements (limit_in s.old) + max_parents * places_in s.old) ≤ length out.old) }
+    ensures { Parted s.old s.new out.old out.new result (λ st. machine.disconnected (limits_of st) n.number clock st.table) }
 {
-    let own = own_keys(s, n, out);
+    let own = own_keys(s, n.number, out);
     let parents = drop_keys(s, n, clock, out, own);
     Left { own, parents }
 }

@@ -4,7 +4,7 @@ ghost use Rattle.ident.specs.Number.{wtxid};
 ghost use Rattle.ident.specs.Words.{hash_num};
 ghost use Rattle.lent_lists.specs.Lists.{hashes_in};
 ghost use Rattle.machine.specs.Fail.{dedup};
-ghost use Rattle.machine.specs.Limits.{max_in_flight, max_parents, request_lifetime, latest_clock};
+ghost use Rattle.machine.specs.Limits.{max_in_flight, max_parents, request_lifetime};
 ghost use Rattle.machine.specs.State.{State, limits_of};
 ghost use Rattle.machine.specs.Sound.{Sound};
 ghost use Rattle.machine.specs.Table.{at, change, owned_by, owned_at};
@@ -15,6 +15,8 @@ ghost use Rattle.requests.specs.Changes.{candidate_of, Makes, Tells};
 ghost use Rattle.announcing.specs.Answers.{Answered};
 ghost use Rattle.soliciting.specs.Solicits.{Keeps, MayOwn, Opened, given, Room};
 
+use ident::connection::Connection;
+use machine::clock::Clock;
 use machine::limits::{MAX_PEER_IN_FLIGHT, REQUEST_LIFETIME};
 
 // "Announces w, preferred, priority 0, ready now"
@@ -64,12 +66,12 @@ pub fn would_solicit(s: &[u8], n: u64, subject: ident::Wtxid, clock: u64) -> boo
 }
 
 // The candidate n becomes the owner of the request at the Wtxid key with hash h, and the request gets the flag.
-fn own_flagged(s: &mut [u8], n: u64, h: ident::Hash, clock: u64)
-    requires { Keeps s.old (MayOwn n (hash_num h)) × (held_places_in s.old < places_in s.old) × (clock ≤ latest_clock) }
-    ensures { Makes s.old s.new (MayOwn n (hash_num h)) (change (wtxid (hash_num h)) (machine.solicited n (clock + request_lifetime) [])) }
+fn own_flagged(s: &mut [u8], n: u64, h: ident::Hash, clock: Clock)
+    requires { Keeps s.old (MayOwn n (hash_num h)) × (held_places_in s.old < places_in s.old) }
+    ensures { Makes s.old s.new (MayOwn n (hash_num h)) (change (wtxid (hash_num h)) (machine.solicited n (clock.time + request_lifetime) [])) }
 {
     let k = ident::Key::from(ident::Wtxid(h));
-    requests::own(s, k, n, clock + REQUEST_LIFETIME);
+    requests::own(s, k, n, clock.time + REQUEST_LIFETIME);
     package_stages::open_info(s, h);
 }
 
@@ -90,23 +92,23 @@ fn add_parents(s: &mut [u8], h: ident::Hash, parents: &[u8])
 // There is room for one more place, unless the reply is 0.
 pub fn solicit_package_info(
     s: &mut [u8],
-    n: u64,
+    n: Connection,
     subject: ident::Wtxid,
     parents: &[u8],
-    clock: u64,
+    clock: Clock,
 ) -> bool
-    requires { Kept s.old × (1 ≤ n) × (clock ≤ latest_clock) × (length (hashes_in parents.now) ≤ max_parents) × Room s.old n (hash_num subject.0) (hashes_in parents.now) clock }
-    ensures { Answered s.old s.new result (λ m t. machine.solicit m n (hash_num subject.0) (hashes_in parents.now) clock t) }
+    requires { Kept s.old × (length (hashes_in parents.now) ≤ max_parents) × Room s.old n.number (hash_num subject.0) (hashes_in parents.now) clock.time }
+    ensures { Answered s.old s.new result (λ m t. machine.solicit m n.number (hash_num subject.0) (hashes_in parents.now) clock.time t) }
 {
-    if !may_own(s, n, subject.0) {
+    if !may_own(s, n.number, subject.0) {
         return false;
     }
     let k = ident::Key::from(subject);
-    announcing::keyed::announce_at(s, k, soliciting(n, subject.0, clock));
-    if !requests::holds(s, k, n) {
+    announcing::keyed::announce_at(s, k, soliciting(n.number, subject.0, clock.time));
+    if !requests::holds(s, k, n.number) {
         return false;
     }
-    own_flagged(s, n, subject.0, clock);
+    own_flagged(s, n.number, subject.0, clock);
     add_parents(s, subject.0, parents);
     true
 }

@@ -11,6 +11,7 @@ ghost use Rattle.lent_lists.specs.Items.{items_in};
 ghost use Rattle.announcing.specs.Answers.{KeysListed};
 ghost use Rattle.wrapping.specs.Wraps.{Roomy, info_listed};
 
+use ident::connection::Connection;
 use lent_lists::KEY;
 
 // The item type of package information (BIP 331).
@@ -29,30 +30,42 @@ fn fail_listed(s: &mut [u8], k: ident::Key, n: u64, clock: u64, out: &mut [u8]) 
 }
 
 // Package information that n was asked for fails with its parents.
-fn fail_info(s: &mut [u8], k: ident::Key, n: u64, clock: u64, out: &mut [u8]) -> usize
-    requires { Kept s.old × (1 ≤ n) × Roomy s.old out.old }
-    ensures { KeysListed s.old s.new out.old out.new result (λ m t. info_listed m (key_num k) n clock t) }
+fn fail_info(s: &mut [u8], k: ident::Key, n: Connection, clock: u64, out: &mut [u8]) -> usize
+    requires { Kept s.old × Roomy s.old out.old }
+    ensures { KeysListed s.old s.new out.old out.new result (λ m t. info_listed m (key_num k) n.number clock t) }
 {
-    if !failing::info_owned(s, k, n) {
+    if !failing::info_owned(s, k, n.number) {
         return 0;
     }
     failing::failed_with_parents(s, k, n, clock, out)
 }
 
 // One item that is not found. Lists in `out` the keys of what failed, and answers how many these are.
-fn not_found_one(s: &mut [u8], n: u64, item: ident::Item, clock: u64, out: &mut [u8]) -> usize
-    requires { Kept s.old × (1 ≤ n) × Roomy s.old out.old }
-    ensures { KeysListed s.old s.new out.old out.new result (λ m t. machine.not_found_one m n clock (item_num item) t) }
+fn not_found_one(
+    s: &mut [u8],
+    n: Connection,
+    item: ident::Item,
+    clock: u64,
+    out: &mut [u8],
+) -> usize
+    requires { Kept s.old × Roomy s.old out.old }
+    ensures { KeysListed s.old s.new out.old out.new result (λ m t. machine.not_found_one m n.number clock (item_num item) t) }
 {
     let h = item.hash;
     match item.kind {
         ident::ItemKind::Transaction => {
-            fail_listed(s, ident::Key::from(ident::Txid(h)), n, clock, out)
+            fail_listed(s, ident::Key::from(ident::Txid(h)), n.number, clock, out)
         }
         ident::ItemKind::WitnessTransaction => {
-            fail_listed(s, ident::Key::from(ident::Txid(h)), n, clock, out)
+            fail_listed(s, ident::Key::from(ident::Txid(h)), n.number, clock, out)
         }
-        ident::ItemKind::WTx => fail_listed(s, ident::Key::from(ident::Wtxid(h)), n, clock, out),
+        ident::ItemKind::WTx => fail_listed(
+            s,
+            ident::Key::from(ident::Wtxid(h)),
+            n.number,
+            clock,
+            out,
+        ),
         ident::ItemKind::Other(t) => {
             if t == MSG_ANCPKGINFO {
                 fail_info(s, ident::Key::from(ident::Wtxid(h)), n, clock, out)
@@ -65,9 +78,15 @@ fn not_found_one(s: &mut [u8], n: u64, item: ident::Item, clock: u64, out: &mut 
 
 // The items that the connection n does not have, one after the other, up to their packages. Lists in `out` the keys of what failed, and
 // answers how many these are.
-pub fn not_found_each(s: &mut [u8], n: u64, items: &[u8], clock: u64, out: &mut [u8]) -> usize
-    requires { Kept s.old × (1 ≤ n) × (key_bytes * (length (items_in items.now) + max_parents * places_in s.old) ≤ length out.old) }
-    ensures { KeysListed s.old s.new out.old out.new result (λ m t. machine.not_found_each m n clock (items_in items.now) t) }
+pub fn not_found_each(
+    s: &mut [u8],
+    n: Connection,
+    items: &[u8],
+    clock: u64,
+    out: &mut [u8],
+) -> usize
+    requires { Kept s.old × (key_bytes * (length (items_in items.now) + max_parents * places_in s.old) ≤ length out.old) }
+    ensures { KeysListed s.old s.new out.old out.new result (λ m t. machine.not_found_each m n.number clock (items_in items.now) t) }
 {
     let count = lent_lists::items(items);
     let y = out.len();
@@ -85,13 +104,13 @@ pub fn not_found_each(s: &mut [u8], n: u64, items: &[u8], clock: u64, out: &mut 
 // and behind each its parents' keys where it has some; answers how many these are.
 pub fn transaction_not_found(
     s: &mut [u8],
-    n: u64,
+    n: Connection,
     items: &[u8],
     clock: u64,
     out: &mut [u8],
 ) -> usize
-    requires { Kept s.old × (1 ≤ n) × (key_bytes * (length (items_in items.now) + max_parents * places_in s.old) ≤ length out.old) }
-    ensures { KeysListed s.old s.new out.old out.new result (λ m t. machine.not_found m n clock (items_in items.now) t) }
+    requires { Kept s.old × (key_bytes * (length (items_in items.now) + max_parents * places_in s.old) ≤ length out.old) }
+    ensures { KeysListed s.old s.new out.old out.new result (λ m t. machine.not_found m n.number clock (items_in items.now) t) }
 {
     let kept = not_found_each(s, n, items, clock, out);
     let a = kept * KEY;

@@ -18,6 +18,8 @@ ghost use Rattle.wrapping.specs.Swaps.{Whole, Swaps, Went, Settled};
 use announcing::foremost::Victims;
 use gathering::beside::Fare;
 use gathering::region::{ROOM, Rows};
+use ident::connection::Connection;
+use machine::clock::Clock;
 use machine::limits::{MAX_PEER_IN_FLIGHT, SOURCE_DELAY};
 
 fn is_wtx(k: ident::ItemKind) -> bool
@@ -317,22 +319,22 @@ fn announce_part(s: &mut [u8], a: Terms, o: Inventory, first: usize) -> usize
 // those of the test of the bytes.
 pub fn announce_transactions(
     s: &mut [u8],
-    n: u64,
-    clock: u64,
+    n: Connection,
+    clock: Clock,
     preferred: bool,
     source: bool,
     items: &[u8],
     priorities: &[u8],
 )
-    requires { Kept s.old × (1 ≤ n) × (clock + request_lifetime < word) }
-    ensures { Becomes s.old s.new (λ m t. machine.announce_transactions m n clock preferred source (offers_in items.now priorities.now) t) }
+    requires { Kept s.old }
+    ensures { Becomes s.old s.new (λ m t. machine.announce_transactions m n.number clock.time preferred source (offers_in items.now priorities.now) t) }
 {
-    let late = overloaded(s, n);
+    let late = overloaded(s, n.number);
     let o = Inventory { items, priorities };
     let count = o.count();
     let a = Terms {
-        connection: n,
-        clock,
+        connection: n.number,
+        clock: clock.time,
         preferred,
         source,
         late,

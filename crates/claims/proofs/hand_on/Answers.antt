@@ -3,17 +3,17 @@ use Rattle.ident.specs.Words.{key_num}
 use Rattle.claims.proofs.Known.{room-keys, named_positive, hand_none, hand_some}
 use Rattle.claims.proofs.hand_on.Goals as goal
 
+pub invariant_of-n : goal.invariant_of-n
+invariant_of-n c = record {
+  positive = named_positive (key_num c.args.k) c.args.clock (λ st s w. c.request_at-r.ensures.is st s w) c.requires c.in-Some.is;
+}
+
 pub parents_for-parents-requires : goal.parents_for-parents-requires
-parents_for-parents-requires c = (
-  c.requires,
-  named_positive (key_num c.args.k) c.args.clock (λ st s w. c.request_at-r.ensures.is st s w) c.requires c.in-Some.is,
-  omega arith,
-)
+parents_for-parents-requires c = (c.requires, omega arith)
 
 pub announce_parents-requires : goal.announce_parents-requires
 announce_parents-requires c = (
   c.requires,
-  named_positive (key_num c.args.k) c.args.clock (λ st s w. c.request_at-r.ensures.is st s w) c.requires c.in-Some.is,
   c.parents_for-parents.ensures.0,
   room-keys _ _ c.parents_for-parents.ensures.0 (omega arith),
 )

@@ -14,17 +14,17 @@ overflow_add-result c =
     omega (
       arith,
       c.announce_parents-c.ensures.count kept.state kept.sound kept.writes,
-      length-announce_parents (limits_of kept.state) c.args.n
+      length-announce_parents (limits_of kept.state) c.args.n.number
           c.args.clock (hashes_in
           c.args.list.now) kept.state.table,
-      c.requires.2,
+      c.requires.1,
     )
 
 pub returns : goal.returns
 returns c = listed-behind c.args.out.now _
     (key_num c.args.k) _
     c.put_key.ensures refl
-    (λ m t. announce_parents m c.args.n
+    (λ m t. announce_parents m c.args.n.number
     c.args.clock
     (hashes_in c.args.list.now) t)
     c.announce_parents-c.ensures

@@ -8,7 +8,7 @@ use Rattle.failing.proofs.failed_with_parents.Goals as goal
 
 pub returns-then-not-failed : goal.returns-then-not-failed
 returns-then-not-failed c = nothing-handed (key_num c.args.k)
-    c.args.n
+    c.args.n.number
     c.args.clock
     c.args.out.now c.if-not-failed.true
     c.failed.ensures
@@ -21,14 +21,13 @@ announce_behind-requires c =
           (hash_below c.args.k.hash
           (key-four c.args.k
           c.well_formed.1.0))
-          c.args.n
+          c.args.n.number
           c.args.clock v
           c.if-not-failed.false
           c.failed.ensures
           c.requires.0,
-      c.requires.1,
       c.parents_for-parents.ensures.0,
-      omega (arith, c.parents_for-parents.ensures.0, c.requires.2),
+      omega (arith, c.parents_for-parents.ensures.0, c.requires.1),
     )
 
 pub returns : goal.returns
@@ -43,7 +42,7 @@ returns c =
     c.args.k.hash
     (key-four c.args.k
     c.well_formed.1.0))
-    c.args.n
+    c.args.n.number
     c.args.clock v
     c.if-not-failed.false
     c.failed.ensures _

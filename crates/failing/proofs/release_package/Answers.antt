@@ -10,14 +10,14 @@ use Rattle.failing.proofs.release_package.Goals as goal
 
 pub returns-then-not-enqueued_by : goal.returns-then-not-enqueued_by
 returns-then-not-enqueued_by c = nothing_released (key_num c.from-k.result) (hash_num c.args.subject.0)
-    c.args.n c.args.clock
+    c.args.n.number c.args.clock
     c.args.out.now c.from-k.ensures
     (λ st s w. sym (c.enqueued_by.ensures st s w) ∙ c.if-not-enqueued_by.true)
 
 pub leave_both-requires : goal.leave_both-requires
 leave_both-requires c = (
   c.requires.0,
-  λ st s w. enqueued-owner c.args.n (at (key_num
+  λ st s w. enqueued-owner c.args.n.number (at (key_num
       c.from-k.result) st.table) (sym (c.enqueued_by.ensures st s w) ∙
       c.if-not-enqueued_by.false),
 )
@@ -30,13 +30,12 @@ announce_behind-requires c =
           (hash_below c.from-k.result.hash
           (key-four c.from-k.result
           c.from-k.type_inv))
-          c.args.n
+          c.args.n.number
           c.args.clock v
           c.leave_both.ensures
           c.requires.0,
-      c.requires.1,
       c.parents_for-parents.ensures.0,
-      omega (arith, c.parents_for-parents.ensures.0, c.requires.2),
+      omega (arith, c.parents_for-parents.ensures.0, c.requires.1),
     )
 
 pub returns : goal.returns
@@ -52,7 +51,7 @@ returns c =
     (key-four
     c.from-k.result
     c.from-k.type_inv))
-    c.args.n c.args.clock v c.leave_both.ensures (hash_num c.args.subject.0)
+    c.args.n.number c.args.clock v c.leave_both.ensures (hash_num c.args.subject.0)
     c.from-k.ensures
     (λ st s w. sym (c.enqueued_by.ensures st
     s w) ∙ c.if-not-enqueued_by.false) _

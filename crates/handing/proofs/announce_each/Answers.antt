@@ -14,6 +14,31 @@ loop-i-init c = handing_none c.args.clock (hashes_in c.args.list.now)
     (conns_in c.args.q c.args.conns.now) c.args.s.now
     c.args.u.now c.args.n c.requires.4
 
+pub invariant_of-announce_for : goal.invariant_of-announce_for
+invariant_of-announce_for c = let late : c.args.clock < word = omega arith in
+    let hs = hashes_in c.args.list.now in
+    let few : FewHashes hs = record {
+      hashes = hashes-fit c.args.list.now
+          (λ j. omega (arith, c.type_inv.list j));
+      few = c.requires.1;
+    } in
+    let h : c.loop-i.i < length (conns_in c.args.q
+    c.args.conns.now) = omega (
+      arith,
+      length-conns
+          c.args.q c.args.conns.now
+          c.requires.2,
+      c.loop-i-test.true,
+    ) in
+    let g = conn_in c.args.q
+    c.args.conns.now c.loop-i.i c.loop-i-test.true
+    c.get-number.ensures in
+    record {
+      positive = (next_peer late few c.requires.3
+          c.requires.4 c.requires.5
+          c.loop-i.invariant c.get-number.result h g).positive;
+    }
+
 pub announce_for-r-requires : goal.announce_for-r-requires
 announce_for-r-requires c = let late : c.args.clock < word = omega arith in
     let hs = hashes_in c.args.list.now in
@@ -32,20 +57,17 @@ announce_for-r-requires c = let late : c.args.clock < word = omega arith in
     ) in
     let g = conn_in c.args.q
     c.args.conns.now c.loop-i.i c.loop-i-test.true
-    c.get-x.ensures in (
+    c.get-number.ensures in (
       handing_kept late few c.requires.3 c.requires.4
           c.requires.5 c.loop-i.invariant
           c.requires.0,
-      (next_peer late few c.requires.3
-          c.requires.4 c.requires.5
-          c.loop-i.invariant c.get-x.result h g).positive,
       c.requires.1,
       handing-order late few c.requires.3
           c.requires.4 c.requires.5
-          c.loop-i.invariant c.get-x.result h g c.requires.0,
+          c.loop-i.invariant c.get-number.result h g c.requires.0,
       handing-room late few c.requires.3
           c.requires.4 c.requires.5
-          c.loop-i.invariant c.get-x.result h g c.requires.0,
+          c.loop-i.invariant c.get-number.result h g c.requires.0,
     )
 
 pub loop-i-preserved : goal.loop-i-preserved
@@ -69,11 +91,11 @@ loop-i-preserved c = let late : c.args.clock < word = omega arith in
     let g = conn_in c.args.q
     c.args.conns.now
     c.loop-i.i c.loop-i-test.true
-    c.get-x.ensures in
+    c.get-number.ensures in
     handing_more late few c.requires.3
     c.requires.4
     c.requires.5
-    c.loop-i.invariant c.get-x.result h g
+    c.loop-i.invariant c.get-number.result h g
     c.announce_for-r.auto.s c.announce_for-r.ensures
 
 pub shape_of-u : goal.shape_of-u

@@ -13,22 +13,22 @@ merge-requires c = let kept = c.requires.0 in
     let few : FewHashes hs = record {
       hashes = hashes-fit c.args.list.now
           (λ j. omega (arith, c.type_inv.list j));
-      few = c.requires.2;
+      few = c.requires.1;
     } in (
-      c.requires.3,
+      c.requires.2,
       omega (
         arith,
-        c.requires.2,
+        c.requires.1,
         c.announce_parents-c.auto,
         c.announce_parents-c.ensures.count kept.state kept.sound kept.writes,
-        length-announce_parents (limits_of kept.state) c.args.x
+        length-announce_parents (limits_of kept.state) c.args.x.number
             c.args.clock hs kept.state.table,
       ),
-      merge-room c.args.x
+      merge-room c.args.x.number
           c.args.clock hs few
           c.announce_parents-c.ensures c.args.u.now
           c.args.n kept
-          c.requires.4,
+          c.requires.3,
     )
 
 pub returns : goal.returns
@@ -37,8 +37,8 @@ returns c = let hs = hashes_in c.args.list.now in
     record {
       hashes = hashes-fit c.args.list.now
           (λ j. omega (arith, c.type_inv.list j));
-      few = c.requires.2;
+      few = c.requires.1;
     } in
-    one_merged c.args.x
+    one_merged c.args.x.number
     c.args.clock hs few
     c.announce_parents-c.ensures c.merge.ensures

@@ -14,7 +14,7 @@ copy_conns-q-requires c = let v : c.args.clock < word =
           c.args.k.hash
           (key-four c.args.k
           c.well_formed.1.0))
-          c.args.n
+          c.args.n.number
           c.args.clock v c.failed.ensures
           c.requires.0,
       search rules,
@@ -29,35 +29,35 @@ announce_each-requires c =
     (key-four c.args.k
     c.well_formed.1.0) in (
       drop_kept (key_num c.args.k) small
-          c.args.n
+          c.args.n.number
           c.args.clock v
           c.failed.ensures
           c.requires.0,
       c.parents_for-parents.ensures.0,
       omega (arith, c.copy_conns-q.ensures.0, c.copy_conns-q.auto),
       drop_peers (key_num c.args.k)
-          small c.args.n
+          small c.args.n.number
           c.args.clock v
           c.failed.ensures
-          c.requires.2 _ c.parents_for-parents.ensures.1 _
+          c.requires.1 _ c.parents_for-parents.ensures.1 _
           c.copy_conns-q.ensures.1
           c.requires.0,
-      c.requires.3,
+      c.requires.2,
       drop-room (key_num c.args.k)
-          small c.args.n
+          small c.args.n.number
           c.args.clock v
           c.failed.ensures
-          c.requires.2 _ c.parents_for-parents.ensures.1 _
+          c.requires.1 _ c.parents_for-parents.ensures.1 _
           c.copy_conns-q.ensures.1
           c.args.u.now
           c.args.c
           c.requires.0
-          c.requires.4,
+          c.requires.3,
     )
 
 pub returns : goal.returns
 returns c =
     let v : c.args.clock < word = omega (arith, c.well_formed.1.1.1.0) in
     let small = hash_below c.args.k.hash (key-four c.args.k c.well_formed.1.0) in
-    dropped (key_num c.args.k) small c.args.n c.args.clock v c.failed.ensures
-    c.requires.2 _ c.parents_for-parents.ensures.1 _ c.copy_conns-q.ensures.1 c.announce_each.ensures
+    dropped (key_num c.args.k) small c.args.n.number c.args.clock v c.failed.ensures
+    c.requires.1 _ c.parents_for-parents.ensures.1 _ c.copy_conns-q.ensures.1 c.announce_each.ensures

@@ -8,19 +8,19 @@ use Rattle.handing.proofs.RowOwners.{row-says}
 use Rattle.handing.proofs.is_owner.Goals as goal
 
 pub rows-rows-requires : goal.rows-rows-requires
-rows-rows-requires c = omega (arith, sizes c.requires.0.writes)
+rows-rows-requires c = omega (arith, sizes c.requires.writes)
 
 pub find_row-i-requires : goal.find_row-i-requires
-find_row-i-requires c = (kept_shown c.requires.0, omega (arith, c.if-from-rows.true), omega (arith, c.rows-rows.ensures.word))
+find_row-i-requires c = (kept_shown c.requires, omega (arith, c.if-from-rows.true), omega (arith, c.rows-rows.ensures.word))
 
 pub row_at-r-requires : goal.row_at-r-requires
-row_at-r-requires c = (kept_shown c.requires.0, omega (arith, c.rows-rows.ensures.word, c.if-i-rows.true))
+row_at-r-requires c = (kept_shown c.requires, omega (arith, c.rows-rows.ensures.word, c.if-i-rows.true))
 
 pub returns-then-has_key : goal.returns-then-has_key
 returns-then-has_key c = λ st s w.
     let n = c.rows-rows.ensures.field (flat_of st) w in
     let l : c.find_row-i.result < length (rows_of st.table) = omega (arith, c.if-i-rows.true) in
-    row-says st s c.args.n
+    row-says st s c.args.n.number
     c.args.k c.key_words-key.ensures l
     (c.row_at-r.ensures (flat_of st) c.row_at-r.result w)
     ((c.find_row-i.ensures.first (flat_of st) w).found c.if-i-rows.true)

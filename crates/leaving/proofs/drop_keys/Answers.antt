@@ -10,9 +10,9 @@ use Rattle.leaving.proofs.drop_keys.Goals as goal
 pub loop-i-init : goal.loop-i-init
 loop-i-init c = λ st s w.
     let late : c.args.clock < word = omega (arith, c.well_formed.1.1.0) in
-    going_first c.args.n c.args.clock late st s w c.args.out.now
-    c.args.own (c.requires.3.count st s w) (c.requires.3.keys st s w)
-    c.requires.2 c.idle_keys-i.ensures
+    going_first c.args.n.number c.args.clock late st s w c.args.out.now
+    c.args.own (c.requires.2.count st s w) (c.requires.2.keys st s w)
+    c.requires.1 c.idle_keys-i.ensures
 
 pub cut_listed-requires : goal.cut_listed-requires
 cut_listed-requires c = let kept = c.requires.0 in

@@ -9,28 +9,28 @@ use Rattle.leaving.proofs.take_turn.Goals as goal
 
 pub key_at-k-requires : goal.key_at-k-requires
 key_at-k-requires c = let late : c.args.clock < word = omega (arith, c.well_formed.1.1.0) in
-    omega (arith, keys-inside c.requires.0.going late, c.requires.2)
+    omega (arith, keys-inside c.requires.0.going late, c.requires.1)
 
 pub waits-next-requires : goal.waits-next-requires
-waits-next-requires c = (going_kept c.requires.0.going, c.requires.1)
+waits-next-requires c = going_kept c.requires.0.going
 
 pub returns-then-is_some : goal.returns-then-is_some
 returns-then-is_some c = λ st u₀ g.
     let late : c.args.clock < word =
     omega (arith, c.well_formed.1.1.0) in
-    turn_rests g late (key_num c.key_at-k.result) c.requires.2
+    turn_rests g late (key_num c.key_at-k.result) c.requires.1
     c.key_at-k.ensures c.waits-next.ensures (sym c.is_some.ensures ∙ c.if-is_some.true)
 
 pub cut_listed-requires : goal.cut_listed-requires
 cut_listed-requires c = let late : c.args.clock < word =
     omega (arith, c.well_formed.1.1.0) in (
       still_kept c.requires.0.going late (key_num
-          c.key_at-k.result) c.requires.2
+          c.key_at-k.result) c.requires.1
           c.key_at-k.ensures c.waits-next.ensures (sym c.is_some.ensures ∙ c.if-is_some.false),
       omega (
         arith,
         keys-inside c.requires.0.going late,
-        c.requires.2,
+        c.requires.1,
       ),
     )
 
@@ -54,11 +54,10 @@ drop_owned-parents-requires c = let late : c.args.clock < word =
     omega (arith, c.well_formed.1.1.0) in
     drop-asks c.requires.0.going late
     (key_num c.key_at-k.result)
-    c.requires.2
+    c.requires.1
     c.key_at-k.ensures
     c.waits-next.ensures
     (sym c.is_some.ensures ∙ c.if-is_some.false) c.cut_listed.ensures
-    c.requires.1
 
 pub returns : goal.returns
 returns c = λ st u₀ g.
@@ -67,7 +66,7 @@ returns c = λ st u₀ g.
       c.well_formed.1.1.0,
     ) in
     turn_owned g late (key_num c.key_at-k.result)
-    c.requires.2
+    c.requires.1
     c.key_at-k.ensures
     c.waits-next.ensures
     (sym c.is_some.ensures ∙ c.if-is_some.false)

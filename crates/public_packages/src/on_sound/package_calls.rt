@@ -6,6 +6,7 @@ ghost use Rattle.store.specs.Image.{SoundStore};
 ghost use Rattle.outcome.specs.Outcome.{Leaves, LeavesWith};
 ghost use Rattle.outcome.specs.Reply.{reply_of, listing_of};
 
+use ident::connection::Connection;
 use outcome::{Refusal, refusals, replied};
 
 pub fn claim_package(
@@ -66,6 +67,12 @@ pub fn release_package(
 {
     refusals::in_turn(connection, clock, 0, answer.len(), refusals::KEYS_ANSWER)?;
     let n = refusals::need_of(s);
-    let listed = failing::release_package(&mut s[..n], connection, subject, clock, answer);
+    let listed = failing::release_package(
+        &mut s[..n],
+        Connection { number: connection },
+        subject,
+        clock,
+        answer,
+    );
     Ok(listed as u64)
 }

@@ -8,6 +8,7 @@ ghost use Rattle.store.specs.Image.{SoundStore};
 ghost use Rattle.outcome.specs.Outcome.{Leaves, LeavesWith};
 ghost use Rattle.outcome.specs.Reply.{reply_of, listing_of};
 
+use ident::connection::Connection;
 use outcome::{Refusal, refusals};
 
 pub fn forget_known(s: &mut [u8], key: ident::Key, clock: u64) -> Result<u64, Refusal>
@@ -45,7 +46,7 @@ pub fn failed_package_claims(
     let n = refusals::need_of(s);
     let listed = claims::waiting::failed_package_claims(
         &mut s[..n],
-        connection,
+        Connection { number: connection },
         combined,
         clock,
         answer,

@@ -14,6 +14,8 @@ ghost use Rattle.outcome.specs.Refusals.{refusal_in};
 ghost use Rattle.outcome.specs.Reply.{reply_of};
 ghost use Rattle.outcome.specs.Tests.{of_place};
 
+use ident::connection::Connection;
+use machine::clock::Clock;
 use outcome::{Refusal, refusals, replied};
 
 // Test 8 of a solicitation, on the bytes of the need.
@@ -64,10 +66,10 @@ pub fn solicit_package_info(
     let n = refusals::need_of(s);
     Ok(replied(soliciting::info::solicit_package_info(
         &mut s[..n],
-        connection,
+        Connection { number: connection },
         subject,
         parents,
-        clock,
+        Clock { time: clock },
     )))
 }
 

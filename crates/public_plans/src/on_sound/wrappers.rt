@@ -8,6 +8,8 @@ ghost use Rattle.store.specs.Image.{SoundStore};
 ghost use Rattle.outcome.specs.Outcome.{Leaves, LeavesWith};
 ghost use Rattle.outcome.specs.Reply.{reply_of, listing_of};
 
+use ident::connection::Connection;
+use machine::clock::Clock;
 use machine::limits::MAX_PARENTS;
 use outcome::{Refusal, refusals};
 
@@ -27,8 +29,8 @@ pub fn announce_transactions(
     let n = refusals::need_of(s);
     wrapping::offering::announce_transactions(
         &mut s[..n],
-        connection,
-        clock,
+        Connection { number: connection },
+        Clock { time: clock },
         preferred,
         source,
         items,
@@ -78,7 +80,7 @@ pub fn transaction_not_found(
     let n = refusals::need_of(s);
     let listed = wrapping::missing::transaction_not_found(
         &mut s[..n],
-        connection,
+        Connection { number: connection },
         items,
         clock,
         answer,

@@ -6,6 +6,7 @@ ghost use Rattle.store.specs.Image.{SoundStore};
 ghost use Rattle.outcome.specs.Outcome.{Leaves, LeavesWith};
 ghost use Rattle.outcome.specs.Reply.{reply_of, listing_of};
 
+use ident::connection::Connection;
 use outcome::{Refusal, refusals, replied};
 
 pub fn announce(s: &mut [u8], c: requests::Candidate) -> Result<u64, Refusal>
@@ -47,7 +48,7 @@ pub fn announce_parents(
     let n = refusals::need_of(s);
     let listed = announcing::parents::announce_parents(
         &mut s[..n],
-        connection,
+        Connection { number: connection },
         clock,
         parents,
         answer,

@@ -5,6 +5,7 @@ ghost use Rattle.store.specs.Image.{SoundStore};
 ghost use Rattle.outcome.specs.Outcome.{Leaves, LeavesWith};
 ghost use Rattle.outcome.specs.Reply.{reply_of, listing_of};
 
+use ident::connection::Connection;
 use outcome::{Refusal, refusals, replied};
 
 pub fn failed(s: &mut [u8], key: ident::Key, connection: u64, clock: u64) -> Result<u64, Refusal>
@@ -28,7 +29,13 @@ pub fn failed_with_parents(
 {
     refusals::in_turn(connection, clock, 0, answer.len(), refusals::KEYS_ANSWER)?;
     let n = refusals::need_of(s);
-    let listed = failing::failed_with_parents(&mut s[..n], key, connection, clock, answer);
+    let listed = failing::failed_with_parents(
+        &mut s[..n],
+        key,
+        Connection { number: connection },
+        clock,
+        answer,
+    );
     Ok(listed as u64)
 }
 

@@ -29,16 +29,13 @@ pub loop-i-init : goal.loop-i-init
 loop-i-init c = turned_start _ _ _ _ _
 
 pub announce_parent-requires : goal.announce_parent-requires
-announce_parent-requires c = (
-  turned_kept c.loop-i.invariant
-      (omega (arith, c.loop-i-test.true, c.hashes-count.ensures)) _
-      c.hash_in-h.ensures (record { positive = c.requires.1; small = omega arith }) (omega arith) (record {
-        hashes = hashes-fit c.args.parents.now
-            (λ j. omega (arith, c.type_inv.parents j));
-        few = c.requires.2;
-      }) c.requires.0,
-  c.requires.1,
-)
+announce_parent-requires c = (turned_kept c.loop-i.invariant
+    (omega (arith, c.loop-i-test.true, c.hashes-count.ensures)) _
+    c.hash_in-h.ensures (record { positive = c.args.n.positive; small = omega arith }) (omega arith) (record {
+      hashes = hashes-fit c.args.parents.now
+          (λ j. omega (arith, c.type_inv.parents j));
+      few = c.requires.1;
+    }) c.requires.0)
 
 pub loop-i-preserved : goal.loop-i-preserved
 loop-i-preserved c =
@@ -47,9 +44,9 @@ loop-i-preserved c =
     let inside : c.loop-i.i < length hs = omega (arith, c.loop-i-test.true, c.hashes-count.ensures) in
     let few : FewHashes hs = record {
       hashes = hashes-fit c.args.parents.now (λ j. omega (arith, c.type_inv.parents j));
-      few = c.requires.2;
+      few = c.requires.1;
     } in
-    let peer : Peer c.args.n = record { positive = c.requires.1; small = omega arith } in
+    let peer : Peer c.args.n.number = record { positive = c.args.n.positive; small = omega arith } in
     let late : c.args.clock < word = omega arith in
     elim c.if-not-occurs_before.branch [
       | then-not-occurs_before w ↦
@@ -58,7 +55,7 @@ loop-i-preserved c =
             | then-announce_parent z ↦
                 turned_as w.s-is (w.out-is ∙ z.out-is) (w.kept-is ∙ z.kept-is) w.priority-is
                 (turned_more v inside _ w.hash_in-h.ensures peer late few new
-                w.announce_parent.auto.s w.announce_parent.ensures z.if-announce_parent.true c.requires.3 (keyed _ _ z.from.ensures z.put_key.ensures))
+                w.announce_parent.auto.s w.announce_parent.ensures z.if-announce_parent.true c.requires.2 (keyed _ _ z.from.ensures z.put_key.ensures))
             | else-announce_parent z ↦
                 turned_as w.s-is (w.out-is ∙ z.out-is) (w.kept-is ∙ z.kept-is) w.priority-is
                 (turned_left v inside _ w.hash_in-h.ensures peer late few new w.announce_parent.auto.s w.announce_parent.ensures z.if-announce_parent.false)

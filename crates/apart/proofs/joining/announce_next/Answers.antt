@@ -15,10 +15,7 @@ let_in-requires c = rw c.wait_with.ensures.1 (
 )
 
 pub announce_parent-requires : goal.announce_parent-requires
-announce_parent-requires c = (
-  let_kept c.let_in.ensures.0 (rw c.wait_with.ensures.1 (waits_same (c.wait_with.ensures.0.alone c.if-wait_with.false) c.requires.0)),
-  c.args.p.connection.positive,
-)
+announce_parent-requires c = let_kept c.let_in.ensures.0 (rw c.wait_with.ensures.1 (waits_same (c.wait_with.ensures.0.alone c.if-wait_with.false) c.requires.0))
 
 pub returns : goal.returns
 returns c = rw c.let_in.ensures.1 (next_alone (record { positive = c.args.p.connection.positive; small = omega arith }) (omega arith) (omega (arith, c.requires.2)) c.requires.1

@@ -10,19 +10,18 @@ use Rattle.claims.proofs.waiting.fail_claim.Goals as goal
 pub returns-then-not-is_owned_by : goal.returns-then-not-is_owned_by
 returns-then-not-is_owned_by c = nothing_on _ c.args.c
     (λ m t. failed_with_parents m (wtxid (hash_num c.args.h))
-    c.args.n c.args.clock t) (λ st s w. fails-nothing
-    (limits_of st) (wtxid (hash_num c.args.h)) c.args.n
-    c.args.clock st.table (sym (owner-reads c.args.n st.table c.from-k.ensures
+    c.args.n.number c.args.clock t) (λ st s w. fails-nothing
+    (limits_of st) (wtxid (hash_num c.args.h)) c.args.n.number
+    c.args.clock st.table (sym (owner-reads c.args.n.number st.table c.from-k.ensures
     (c.request_at-q.ensures.is st s w) c.is_owned_by.ensures) ∙ c.if-not-is_owned_by.true))
 
 pub failed_with_parents-r-requires : goal.failed_with_parents-r-requires
 failed_with_parents-r-requires c = (
   c.requires.0,
-  c.requires.1,
   part_room c.args.out.now
-      c.args.c _ _ refl refl (c.requires.3
+      c.args.c _ _ refl refl (c.requires.2
       c.requires.0.state c.requires.0.sound
-      c.requires.0.writes (sym (owner-reads c.args.n _ c.from-k.ensures
+      c.requires.0.writes (sym (owner-reads c.args.n.number _ c.from-k.ensures
       (c.request_at-q.ensures.is c.requires.0.state
       c.requires.0.sound
       c.requires.0.writes)
@@ -32,14 +31,14 @@ failed_with_parents-r-requires c = (
 pub overflow_add-result : goal.overflow_add-result
 overflow_add-result c = omega (
   arith,
-  c.requires.4,
+  c.requires.3,
   c.failed_with_parents-r.ensures.count
       c.requires.0.state
       c.requires.0.sound
       c.requires.0.writes,
   fails_few (limits_of c.requires.0.state) (key_num
       c.from-k.result)
-      c.args.n
+      c.args.n.number
       c.args.clock
       c.requires.0.state
       c.requires.0.sound,
@@ -47,16 +46,16 @@ overflow_add-result c = omega (
 
 pub returns : goal.returns
 returns c = same_on (λ m t. failed_with_parents m (key_num c.from-k.result)
-    c.args.n
+    c.args.n.number
     c.args.clock t)
     (λ m t. failed_with_parents m (wtxid (hash_num c.args.h))
-    c.args.n
+    c.args.n.number
     c.args.clock t)
-    (λ m t. ap (λ (k : Key). failed_with_parents m k c.args.n
+    (λ m t. ap (λ (k : Key). failed_with_parents m k c.args.n.number
     c.args.clock t)
     c.from-k.ensures)
     (listed_on _ c.args.c _ _ refl refl
     (λ m t. failed_with_parents m (key_num c.from-k.result)
-    c.args.n
+    c.args.n.number
     c.args.clock t)
     c.failed_with_parents-r.ensures)

@@ -7,7 +7,6 @@ pub fail_given-requires : goal.fail_given-requires
 fail_given-requires c = (
   c.requires.0,
   c.requires.1,
-  c.requires.2,
   claims-lent _ _ c.claims_of-m.result _ refl
       c.claims_of-m.ensures (omega (arith, c.claims_of-m.auto))
       (omega (arith, c.claims_of-m.auto)),

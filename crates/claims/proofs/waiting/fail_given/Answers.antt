@@ -10,13 +10,13 @@ use Rattle.claims.proofs.Listing.{failed_none, failed_kept, failed-fits, failed_
 use Rattle.claims.proofs.waiting.fail_given.Goals as goal
 
 pub loop-i-init : goal.loop-i-init
-loop-i-init c = failed_none _ _ c.args.n c.args.clock
+loop-i-init c = failed_none _ _ c.args.n.number c.args.clock
     (entries_in c.args.items c.args.given.now)
 
 pub fail_entry-c-requires : goal.fail_entry-c-requires
 fail_entry-c-requires c =
     let a = c.args in
-    let peer : Peer a.n = record { positive = c.requires.1; small = omega arith } in
+    let peer : Peer a.n.number = record { positive = c.args.n.positive; small = omega arith } in
     let late : a.clock < word = omega arith in
     let v = c.loop-i.invariant in
     let inside : c.loop-i.i < length (entries_in a.items a.given.now) =
@@ -24,18 +24,17 @@ fail_entry-c-requires c =
     let given = somes_given a.items a.given.now in
     let kept = c.requires.0 in (
       failed_kept v peer late kept,
-      c.requires.1,
-      failed-fits v peer late kept (ap length given) c.requires.2,
-      same_many (c.requires.3 kept.state kept.sound kept.writes),
-      failed-room v peer late kept (ap length given) c.requires.2 (hash_found c.entry_at-entry.result) inside
-          c.entry_at-entry.ensures c.requires.3,
+      failed-fits v peer late kept (ap length given) c.requires.1,
+      same_many (c.requires.2 kept.state kept.sound kept.writes),
+      failed-room v peer late kept (ap length given) c.requires.1 (hash_found c.entry_at-entry.result) inside
+          c.entry_at-entry.ensures c.requires.2,
       failed_few v peer late kept,
     )
 
 pub loop-i-preserved : goal.loop-i-preserved
 loop-i-preserved c =
     let a = c.args in
-    let peer : Peer a.n = record { positive = c.requires.1; small = omega arith } in
+    let peer : Peer a.n.number = record { positive = c.args.n.positive; small = omega arith } in
     let late : a.clock < word = omega arith in
     let v = c.loop-i.invariant in
     let inside : c.loop-i.i < length (entries_in a.items a.given.now) = omega (
@@ -44,7 +43,7 @@ loop-i-preserved c =
       c.loop-i-test.true,
     ) in
     failed_more v peer late (hash_found c.entry_at-entry.result) inside c.entry_at-entry.ensures
-    c.requires.3 (omega (arith, c.fail_entry-c.auto)) (omega (arith, c.fail_entry-c.auto))
+    c.requires.2 (omega (arith, c.fail_entry-c.auto)) (omega (arith, c.fail_entry-c.auto))
     c.fail_entry-c.ensures
 
 pub returns : goal.returns

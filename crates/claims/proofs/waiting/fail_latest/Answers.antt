@@ -12,13 +12,13 @@ use Rattle.claims.proofs.waiting.fail_latest.Goals as goal
 pub returns-in-Some : goal.returns-in-Some
 returns-in-Some c =
     let o = last_among (hash_num c.args.sum) (hashes_in c.args.keys.now) (hashes_in c.args.sums.now) in
-    same_on (λ m t. failed_with_parents m (wtxid (hash_num c.in-Some.h)) c.args.n c.args.clock t)
-    (λ m t. fail_each m c.args.n c.args.clock (some_keys (o ∷ [])) t)
-    (found_each o (wtxid (hash_num c.in-Some.h)) c.args.n c.args.clock (sym c.in-Some.ensures))
+    same_on (λ m t. failed_with_parents m (wtxid (hash_num c.in-Some.h)) c.args.n.number c.args.clock t)
+    (λ m t. fail_each m c.args.n.number c.args.clock (some_keys (o ∷ [])) t)
+    (found_each o (wtxid (hash_num c.in-Some.h)) c.args.n.number c.args.clock (sym c.in-Some.ensures))
     c.fail_claim.ensures
 
 pub returns-in-None : goal.returns-in-None
 returns-in-None c =
     let o = last_among (hash_num c.args.sum) (hashes_in c.args.keys.now) (hashes_in c.args.sums.now) in
-    nothing_on _ c.args.c (λ m t. fail_each m c.args.n c.args.clock (some_keys (o ∷ [])) t)
-    (λ st s w. missing_each o c.args.n c.args.clock (sym c.in-None.ensures) (limits_of st) st.table)
+    nothing_on _ c.args.c (λ m t. fail_each m c.args.n.number c.args.clock (some_keys (o ∷ [])) t)
+    (λ st s w. missing_each o c.args.n.number c.args.clock (sym c.in-None.ensures) (limits_of st) st.table)

@@ -6,6 +6,5 @@ use Rattle.claims.proofs.waiting.failed_package_claims.Goals as goal
 pub fail_claims-requires : goal.fail_claims-requires
 fail_claims-requires c = (
   c.requires.0,
-  c.requires.1,
-  (λ st s w. inl (omega (arith, c.requires.2, s.bounded.room, (sizes w).places))),
+  (λ st s w. inl (omega (arith, c.requires.1, s.bounded.room, (sizes w).places))),
 )

@@ -13,7 +13,7 @@ returns-then-not-is_owned_by c = (
   omega arith,
   λ st s w.
       let x = c.request_at-r.ensures.is st s w in
-      others-parents (at (key_num c.args.k) st.table) c.args.n c.args.list.now (sym c.if-not-is_owned_by.true ∙ owner-is x c.args.n c.is_owned_by.ensures),
+      others-parents (at (key_num c.args.k) st.table) c.args.n.number c.args.list.now (sym c.if-not-is_owned_by.true ∙ owner-is x c.args.n.number c.is_owned_by.ensures),
 )
 
 pub returns-then-is_none : goal.returns-then-is_none
@@ -21,7 +21,7 @@ returns-then-is_none c = (
   omega arith,
   λ st s w.
       let x = c.request_at-r.ensures.is st s w in
-      placeless (at (key_num c.args.k) st.table) c.args.n c.args.list.now (sym (staged x) ∙ c.is_none.ensures ∙ ap not c.if-is_none.true),
+      placeless (at (key_num c.args.k) st.table) c.args.n.number c.args.list.now (sym (staged x) ∙ c.is_none.ensures ∙ ap not c.if-is_none.true),
 )
 
 pub returns-in-Ok : goal.returns-in-Ok
@@ -31,7 +31,7 @@ returns-in-Ok c = (
       let x = c.request_at-r.ensures.is st s w in
       let z = c.in-Ok.ensures in
       let h = sym (staged x) ∙ c.is_none.ensures ∙ ap not c.if-is_none.false in
-      its-parents st s (key_num c.args.k) z.small h c.args.n (sym c.if-not-is_owned_by.false ∙ owner-is x c.args.n c.is_owned_by.ensures) _ _
+      its-parents st s (key_num c.args.k) z.small h c.args.n.number (sym c.if-not-is_owned_by.false ∙ owner-is x c.args.n.number c.is_owned_by.ensures) _ _
       (c.copy_parents.ensures.1 (hash_num c.args.k.hash) z.small st s w (z.is st s w)),
 )
 

@@ -12,9 +12,9 @@ open_info-requires c =
     let small = hash_below h (hash-four h c.well_formed.1.1.0) in
     let m = g.holds in
     let key = c.from-k in (
-      owned_kept g.state g.sound c.args.n (hash_num h) c.args.clock small c.requires.2 m (key_num key.result) key.ensures
+      owned_kept g.state g.sound c.args.n (hash_num h) c.args.clock.time small c.args.clock.early m (key_num key.result) key.ensures
           c.own.ensures g.writes,
-      owned-place g.state g.sound c.args.n (hash_num h) c.args.clock small c.requires.2 m (key_num
+      owned-place g.state g.sound c.args.n (hash_num h) c.args.clock.time small c.args.clock.early m (key_num
           key.result) key.ensures c.own.ensures g.writes c.requires.1,
     )
 
@@ -23,5 +23,5 @@ returns c = λ st s w m.
     let h = c.args.h in
     let small = hash_below h (hash-four h c.well_formed.1.1.0) in
     let key = c.from-k in
-    opened-writes st s c.args.n (hash_num h) c.args.clock small c.requires.2 m (key_num key.result) key.ensures
+    opened-writes st s c.args.n (hash_num h) c.args.clock.time small c.args.clock.early m (key_num key.result) key.ensures
     c.own.ensures w c.open_info.ensures

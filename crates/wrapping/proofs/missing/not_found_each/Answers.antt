@@ -21,31 +21,31 @@ pub overflow_mul-a : goal.overflow_mul-a
 overflow_mul-a c =
     let a = c.args in
     let l = items_in a.items.now in
-    let peer : Peer a.n = record { positive = c.requires.1; small = omega arith } in
+    let peer : Peer a.n.number = record { positive = a.n.positive; small = omega arith } in
     let late : a.clock < word = omega arith in
     let hashed = items-fit a.items.now (λ j. omega (arith, c.type_inv.items j)) in
     let v = c.loop-i.invariant in
-    omega (arith, turned_fits v peer late hashed c.requires.0 c.requires.2, v.buffer-long)
+    omega (arith, turned_fits v peer late hashed c.requires.0 c.requires.1, v.buffer-long)
 
 pub slice_bounds-not_found_one-count : goal.slice_bounds-not_found_one-count
 slice_bounds-not_found_one-count c =
     let a = c.args in
     let l = items_in a.items.now in
-    let peer : Peer a.n = record { positive = c.requires.1; small = omega arith } in
+    let peer : Peer a.n.number = record { positive = a.n.positive; small = omega arith } in
     let late : a.clock < word = omega arith in
     let hashed = items-fit a.items.now (λ j. omega (arith, c.type_inv.items j)) in
     let v = c.loop-i.invariant in
-    omega (arith, turned_fits v peer late hashed c.requires.0 c.requires.2, v.buffer-long)
+    omega (arith, turned_fits v peer late hashed c.requires.0 c.requires.1, v.buffer-long)
 
 pub slice_bounds-not_found_one-start : goal.slice_bounds-not_found_one-start
 slice_bounds-not_found_one-start c =
     let a = c.args in
     let l = items_in a.items.now in
-    let peer : Peer a.n = record { positive = c.requires.1; small = omega arith } in
+    let peer : Peer a.n.number = record { positive = a.n.positive; small = omega arith } in
     let late : a.clock < word = omega arith in
     let hashed = items-fit a.items.now (λ j. omega (arith, c.type_inv.items j)) in
     let v = c.loop-i.invariant in
-    omega (arith, turned_fits v peer late hashed c.requires.0 c.requires.2, v.buffer-long)
+    omega (arith, turned_fits v peer late hashed c.requires.0 c.requires.1, v.buffer-long)
 
 pub slice_bounds-not_found_one-end : goal.slice_bounds-not_found_one-end
 slice_bounds-not_found_one-end c = omega (arith, c.loop-i.invariant.buffer-long)
@@ -54,19 +54,19 @@ pub not_found_one-c-requires : goal.not_found_one-c-requires
 not_found_one-c-requires c =
     let a = c.args in
     let l = items_in a.items.now in
-    let peer : Peer a.n = record { positive = c.requires.1; small = omega arith } in
+    let peer : Peer a.n.number = record { positive = a.n.positive; small = omega arith } in
     let late : a.clock < word = omega arith in
     let hashed = items-fit a.items.now (λ j. omega (arith, c.type_inv.items j)) in
     let v = c.loop-i.invariant in
     let inside : c.loop-i.i < length l = omega (arith, c.loop-i-test.true, c.items-count.ensures) in
     let from : c.loop-i.kept * key_bytes ≡ key_bytes * c.loop-i.kept = omega arith in
-    (turned_kept v peer late hashed c.requires.0 c.requires.2, c.requires.1, turned_roomy v peer late hashed c.requires.0 c.requires.2 inside from (sym v.buffer-long))
+    (turned_kept v peer late hashed c.requires.0 c.requires.1, turned_roomy v peer late hashed c.requires.0 c.requires.1 inside from (sym v.buffer-long))
 
 pub overflow_add-kept : goal.overflow_add-kept
 overflow_add-kept c =
     let a = c.args in
     let l = items_in a.items.now in
-    let peer : Peer a.n = record { positive = c.requires.1; small = omega arith } in
+    let peer : Peer a.n.number = record { positive = a.n.positive; small = omega arith } in
     let late : a.clock < word = omega arith in
     let hashed = items-fit a.items.now (λ j. omega (arith, c.type_inv.items j)) in
     let v = c.loop-i.invariant in
@@ -77,16 +77,16 @@ overflow_add-kept c =
     ) in
     let from : c.loop-i.kept * key_bytes ≡
     key_bytes * c.loop-i.kept = omega arith in
-    let next = turned_more v peer late hashed c.requires.0 c.requires.2 inside from (sym v.buffer-long) _ c.item_at-item.ensures
+    let next = turned_more v peer late hashed c.requires.0 c.requires.1 inside from (sym v.buffer-long) _ c.item_at-item.ensures
     c.not_found_one-c.auto.s c.not_found_one-c.auto.out
     c.not_found_one-c.ensures in
-    omega (arith, turned_fits next peer late hashed c.requires.0 c.requires.2)
+    omega (arith, turned_fits next peer late hashed c.requires.0 c.requires.1)
 
 pub loop-i-preserved : goal.loop-i-preserved
 loop-i-preserved c =
     let a = c.args in
     let l = items_in a.items.now in
-    let peer : Peer a.n = record { positive = c.requires.1; small = omega arith } in
+    let peer : Peer a.n.number = record { positive = a.n.positive; small = omega arith } in
     let late : a.clock < word = omega arith in
     let hashed = items-fit a.items.now (λ j. omega (arith, c.type_inv.items j)) in
     let v = c.loop-i.invariant in
@@ -97,7 +97,7 @@ loop-i-preserved c =
     ) in
     let from : c.loop-i.kept * key_bytes ≡
     key_bytes * c.loop-i.kept = omega arith in
-    turned_more v peer late hashed c.requires.0 c.requires.2 inside from (sym v.buffer-long) _ c.item_at-item.ensures
+    turned_more v peer late hashed c.requires.0 c.requires.1 inside from (sym v.buffer-long) _ c.item_at-item.ensures
     c.not_found_one-c.auto.s c.not_found_one-c.auto.out
     c.not_found_one-c.ensures
 

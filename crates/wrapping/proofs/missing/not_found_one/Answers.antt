@@ -8,11 +8,11 @@ pub fail_listed-requires : goal.fail_listed-requires
 fail_listed-requires c = (
   c.requires.0,
   one_room c.args.out.now
-      c.requires.0 c.requires.2,
+      c.requires.0 c.requires.1,
 )
 
 pub returns-in-Transaction : goal.returns-in-Transaction
-returns-in-Transaction c = one_keyed c.args.n
+returns-in-Transaction c = one_keyed c.args.n.number
     c.args.clock
     (hash_num c.args.item.hash)
     c.args.item.kind _
@@ -24,11 +24,11 @@ pub fail_listed-requires-in-WitnessTransaction : goal.fail_listed-requires-in-Wi
 fail_listed-requires-in-WitnessTransaction c = (
   c.requires.0,
   one_room c.args.out.now
-      c.requires.0 c.requires.2,
+      c.requires.0 c.requires.1,
 )
 
 pub returns-in-WitnessTransaction : goal.returns-in-WitnessTransaction
-returns-in-WitnessTransaction c = one_keyed c.args.n
+returns-in-WitnessTransaction c = one_keyed c.args.n.number
     c.args.clock
     (hash_num c.args.item.hash)
     c.args.item.kind _
@@ -40,11 +40,11 @@ pub fail_listed-requires-in-WTx : goal.fail_listed-requires-in-WTx
 fail_listed-requires-in-WTx c = (
   c.requires.0,
   one_room c.args.out.now
-      c.requires.0 c.requires.2,
+      c.requires.0 c.requires.1,
 )
 
 pub returns-in-WTx : goal.returns-in-WTx
-returns-in-WTx c = one_keyed c.args.n
+returns-in-WTx c = one_keyed c.args.n.number
     c.args.clock
     (hash_num c.args.item.hash)
     c.args.item.kind _
@@ -53,12 +53,12 @@ returns-in-WTx c = one_keyed c.args.n
     c.fail_listed-in-WTx.ensures
 
 pub returns-then-t-eq-MSG_ANCPKGINFO : goal.returns-then-t-eq-MSG_ANCPKGINFO
-returns-then-t-eq-MSG_ANCPKGINFO c = one_info c.args.n
+returns-then-t-eq-MSG_ANCPKGINFO c = one_info c.args.n.number
     c.args.clock
     (hash_num c.args.item.hash) _ _
     c.in-Other.is c.if-t-eq-MSG_ANCPKGINFO.true
     c.from-then-t-eq-MSG_ANCPKGINFO.ensures c.fail_info.ensures
 
 pub returns-else-t-eq-MSG_ANCPKGINFO : goal.returns-else-t-eq-MSG_ANCPKGINFO
-returns-else-t-eq-MSG_ANCPKGINFO c = one_other c.args.n c.args.clock
+returns-else-t-eq-MSG_ANCPKGINFO c = one_other c.args.n.number c.args.clock
     (hash_num c.args.item.hash) _ c.in-Other.is c.if-t-eq-MSG_ANCPKGINFO.false

@@ -14,53 +14,53 @@ pub overflow_mul-a : goal.overflow_mul-a
 overflow_mul-a c =
     let a = c.args in
     let l = items_in a.items.now in
-    let peer : Peer a.n = record { positive = c.requires.1; small = omega arith } in
+    let peer : Peer a.n.number = record { positive = a.n.positive; small = omega arith } in
     let late : a.clock < word = omega arith in
     let hashed = items-fit a.items.now (λ j. omega (arith, c.type_inv.items j)) in
     let v = c.not_found_each-kept.ensures in
     let long = c.not_found_each-kept.auto.out in
-    omega (arith, items-within l v long peer late hashed c.requires.0 c.requires.2, long)
+    omega (arith, items-within l v long peer late hashed c.requires.0 c.requires.1, long)
 
 pub slice_bounds-packages_not_found-count : goal.slice_bounds-packages_not_found-count
 slice_bounds-packages_not_found-count c =
     let a = c.args in
     let l = items_in a.items.now in
-    let peer : Peer a.n = record { positive = c.requires.1; small = omega arith } in
+    let peer : Peer a.n.number = record { positive = a.n.positive; small = omega arith } in
     let late : a.clock < word = omega arith in
     let hashed = items-fit a.items.now (λ j. omega (arith, c.type_inv.items j)) in
     let v = c.not_found_each-kept.ensures in
     let long = c.not_found_each-kept.auto.out in
-    omega (arith, items-within l v long peer late hashed c.requires.0 c.requires.2, long)
+    omega (arith, items-within l v long peer late hashed c.requires.0 c.requires.1, long)
 
 pub slice_bounds-packages_not_found-start : goal.slice_bounds-packages_not_found-start
 slice_bounds-packages_not_found-start c =
     let a = c.args in
     let l = items_in a.items.now in
-    let peer : Peer a.n = record { positive = c.requires.1; small = omega arith } in
+    let peer : Peer a.n.number = record { positive = a.n.positive; small = omega arith } in
     let late : a.clock < word = omega arith in
     let hashed = items-fit a.items.now (λ j. omega (arith, c.type_inv.items j)) in
     let v = c.not_found_each-kept.ensures in
     let long = c.not_found_each-kept.auto.out in
-    omega (arith, items-within l v long peer late hashed c.requires.0 c.requires.2, long)
+    omega (arith, items-within l v long peer late hashed c.requires.0 c.requires.1, long)
 
 pub packages_not_found-c-requires : goal.packages_not_found-c-requires
 packages_not_found-c-requires c =
     let a = c.args in
     let l = items_in a.items.now in
-    let peer : Peer a.n = record { positive = c.requires.1; small = omega arith } in
+    let peer : Peer a.n.number = record { positive = a.n.positive; small = omega arith } in
     let late : a.clock < word = omega arith in
     let hashed = items-fit a.items.now (λ j. omega (arith, c.type_inv.items j)) in
     let v = c.not_found_each-kept.ensures in
     let long = c.not_found_each-kept.auto.out in
     let from : c.not_found_each-kept.result * key_bytes ≡ key_bytes * c.not_found_each-kept.result =
     omega arith in
-    (items_kept l v long peer late hashed c.requires.0 c.requires.2, c.requires.1, packages-room l v long peer late hashed c.requires.0 c.requires.2 from refl)
+    (items_kept l v long peer late hashed c.requires.0 c.requires.1, packages-room l v long peer late hashed c.requires.0 c.requires.1 from refl)
 
 pub overflow_add-result : goal.overflow_add-result
 overflow_add-result c =
     let a = c.args in
     let l = items_in a.items.now in
-    let peer : Peer a.n = record { positive = c.requires.1; small = omega arith } in
+    let peer : Peer a.n.number = record { positive = a.n.positive; small = omega arith } in
     let late : a.clock < word = omega arith in
     let hashed = items-fit a.items.now
     (λ j. omega (arith, c.type_inv.items j)) in
@@ -68,13 +68,13 @@ overflow_add-result c =
     let long = c.not_found_each-kept.auto.out in
     let from : c.not_found_each-kept.result * key_bytes ≡
     key_bytes * c.not_found_each-kept.result = omega arith in
-    omega (arith, packages-within l v long peer late hashed c.requires.0 c.requires.2 from refl c.packages_not_found-c.ensures)
+    omega (arith, packages-within l v long peer late hashed c.requires.0 c.requires.1 from refl c.packages_not_found-c.ensures)
 
 pub returns : goal.returns
 returns c =
     let a = c.args in
     let l = items_in a.items.now in
-    let peer : Peer a.n = record { positive = c.requires.1; small = omega arith } in
+    let peer : Peer a.n.number = record { positive = a.n.positive; small = omega arith } in
     let late : a.clock < word = omega arith in
     let hashed = items-fit a.items.now
     (λ j. omega (arith, c.type_inv.items j)) in
@@ -82,4 +82,4 @@ returns c =
     let long = c.not_found_each-kept.auto.out in
     let from : c.not_found_each-kept.result * key_bytes ≡
     key_bytes * c.not_found_each-kept.result = omega arith in
-    packages-listed l v long peer late hashed c.requires.0 c.requires.2 from refl c.packages_not_found-c.ensures
+    packages-listed l v long peer late hashed c.requires.0 c.requires.1 from refl c.packages_not_found-c.ensures

@@ -1,6 +1,8 @@
 -- `wrapping::offering::announce_transactions` meets its contract.
+use Prim.Native.Nat.{◌+◌, ◌<◌}
 use mathlib.Core.Path.{refl, ◌∙◌}
 use native.Mathlib.Omega.{arith}
+use Rattle.machine.specs.Limits.{request_lifetime, word}
 use Rattle.machine.specs.Typed.{Each, OfferTyped}
 use Rattle.machine.proofs.Fail.{Peer}
 use Rattle.lent_lists.specs.Items.{offers_in}
@@ -16,9 +18,9 @@ returns-then-count-eq0 c = batched_done (batched_start _ _ _ _ _ _) (omega (arit
 
 pub announce_part-i-requires : goal.announce_part-i-requires
 announce_part-i-requires c = (
-  c.requires.0,
-  c.requires.1,
-  c.requires.2,
+  c.requires,
+  c.args.n.positive,
+  omega (arith, c.args.clock.early),
   omega (arith, c.if-count-eq0.false, c.count-count.ensures),
 )
 
@@ -26,21 +28,18 @@ pub loop-i-init : goal.loop-i-init
 loop-i-init c = (refl, c.announce_part-i.ensures.inside, λ u f b. b)
 
 pub announce_part-i-requires-in-loop-i : goal.announce_part-i-requires-in-loop-i
-announce_part-i-requires-in-loop-i c = let peer : Peer c.args.n = record {
-  positive =
-      c.requires.1;
-  small = omega arith;
-} in
+announce_part-i-requires-in-loop-i c = let peer : Peer c.args.n.number = record { positive = c.args.n.positive; small = omega arith } in
+    let early : c.args.clock.time + request_lifetime < word = omega (arith, c.args.clock.early) in
     let typed : Each OfferTyped (offers_in c.args.items.now c.args.priorities.now) = offers-fit c.args.items.now c.args.priorities.now
     (λ j. omega (arith, c.type_inv.items j)) (λ j. omega (
       arith,
       c.type_inv.priorities j,
     )) in
-    let begun = batched_more (batched_start c.args.n c.args.clock c.args.preferred c.args.source (offers_in c.args.items.now c.args.priorities.now) c.args.s.now) peer c.requires.2 typed
+    let begun = batched_more (batched_start c.args.n.number c.args.clock.time c.args.preferred c.args.source (offers_in c.args.items.now c.args.priorities.now) c.args.s.now) peer early typed
     c.overloaded-late.ensures c.announce_part-i.ensures c.announce_part-i.auto.s in (
-      batched_kept (c.loop-i.invariant.2 c.args.s.now c.overloaded-late.ensures begun) peer c.requires.2 typed c.requires.0,
-      c.requires.1,
-      c.requires.2,
+      batched_kept (c.loop-i.invariant.2 c.args.s.now c.overloaded-late.ensures begun) peer early typed c.requires,
+      c.args.n.positive,
+      early,
       omega (arith, c.loop-i-test.true, c.count-count.ensures),
     )
 
@@ -53,33 +52,29 @@ loop-i-smaller c = omega (
 )
 
 pub loop-i-preserved : goal.loop-i-preserved
-loop-i-preserved c = let peer : Peer c.args.n = record {
-  positive = c.requires.1;
-  small = omega arith;
-} in
+loop-i-preserved c = let peer : Peer c.args.n.number = record { positive = c.args.n.positive; small = omega arith } in
+    let early : c.args.clock.time + request_lifetime < word = omega (arith, c.args.clock.early) in
     let typed : Each OfferTyped (offers_in c.args.items.now c.args.priorities.now) = offers-fit c.args.items.now c.args.priorities.now
     (λ j. omega (arith, c.type_inv.items j)) (λ j. omega
     (arith, c.type_inv.priorities j)) in (
       c.announce_part-i-in-loop-i.auto.s ∙ c.loop-i.invariant.0,
       c.announce_part-i-in-loop-i.ensures.inside,
-      λ u f b. batched_more (c.loop-i.invariant.2 u f b) peer c.requires.2 typed f c.announce_part-i-in-loop-i.ensures c.announce_part-i-in-loop-i.auto.s,
+      λ u f b. batched_more (c.loop-i.invariant.2 u f b) peer early typed f c.announce_part-i-in-loop-i.ensures c.announce_part-i-in-loop-i.auto.s,
     )
 
 pub shape_of-s : goal.shape_of-s
 shape_of-s c = c.loop-i.invariant.0 ∙ c.announce_part-i.auto.s
 
 pub returns : goal.returns
-returns c = let peer : Peer c.args.n = record {
-  positive = c.requires.1;
-  small = omega arith;
-} in
+returns c = let peer : Peer c.args.n.number = record { positive = c.args.n.positive; small = omega arith } in
+    let early : c.args.clock.time + request_lifetime < word = omega (arith, c.args.clock.early) in
     let typed : Each OfferTyped (offers_in c.args.items.now c.args.priorities.now) = offers-fit c.args.items.now c.args.priorities.now
     (λ j. omega (arith, c.type_inv.items j)) (λ j. omega (
       arith,
       c.type_inv.priorities j,
     )) in
-    let begun = batched_more (batched_start c.args.n c.args.clock c.args.preferred c.args.source (offers_in c.args.items.now c.args.priorities.now) c.args.s.now) peer
-    c.requires.2 typed
+    let begun = batched_more (batched_start c.args.n.number c.args.clock.time c.args.preferred c.args.source (offers_in c.args.items.now c.args.priorities.now) c.args.s.now) peer
+    early typed
     c.overloaded-late.ensures c.announce_part-i.ensures c.announce_part-i.auto.s in
     batched_done (c.loop-i.invariant.2 c.args.s.now c.overloaded-late.ensures begun) (omega (
       arith,

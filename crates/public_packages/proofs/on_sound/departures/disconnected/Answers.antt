@@ -11,12 +11,15 @@ pub returns-in_err-in_turn : goal.returns-in_err-in_turn
 returns-in_err-in_turn c =
     rw (hands-on _ c.from_residual.ensures.1) (refused (departs _ _ _) c.requires _ (c.in_err-in_turn.ensures ∙ rw (c.departure_needs-needs.ensures c.requires)))
 
+pub invariant_of-disconnected : goal.invariant_of-disconnected
+invariant_of-disconnected c = record { positive = some_connection _ (passed c.in_ok-in_turn.ensures).connections }
+
 pub disconnected-left-requires : goal.disconnected-left-requires
 disconnected-left-requires c =
     let w = c.requires in
     let p = passed c.in_ok-in_turn.ensures in
     let e = c.need_of-n.ensures in
-    (e.kept, some_connection _ p.connections, omega (arith, p.room, c.departure_needs-needs.ensures w, front_limit w e, front_places w e))
+    (e.kept, omega (arith, p.room, c.departure_needs-needs.ensures w, front_limit w e, front_places w e))
 
 pub returns : goal.returns
 returns c =

@@ -12,10 +12,13 @@ pub returns-in_err-in_turn : goal.returns-in_err-in_turn
 returns-in_err-in_turn c =
     rw (hands-on _ c.from_residual.ensures.1) (refused (releases-package _ _ _ _).names c.requires _ c.in_err-in_turn.ensures)
 
+pub invariant_of-release_package : goal.invariant_of-release_package
+invariant_of-release_package c = record { positive = some_connection _ (passed c.in_ok-in_turn.ensures).connections }
+
 pub release_package-listed-requires : goal.release_package-listed-requires
 release_package-listed-requires c =
     let p = passed c.in_ok-in_turn.ensures in
-    (c.need_of-n.ensures.kept, some_connection _ p.connections, omega (arith, p.room))
+    (c.need_of-n.ensures.kept, omega (arith, p.room))
 
 pub returns : goal.returns
 returns c =

@@ -12,12 +12,15 @@ pub returns-in_err-in_turn : goal.returns-in_err-in_turn
 returns-in_err-in_turn c =
     rw (hands-on _ c.from_residual.ensures.1) (refused (fails-claims _ _ _ _).names c.requires _ (sized _ _ _ _ c.in_err-in_turn.ensures (c.claims_needs-needs.ensures c.requires)))
 
+pub invariant_of-failed_package_claims : goal.invariant_of-failed_package_claims
+invariant_of-failed_package_claims c = record { positive = some_connection _ (passed c.in_ok-in_turn.ensures).connections }
+
 pub failed_package_claims-listed-requires : goal.failed_package_claims-listed-requires
 failed_package_claims-listed-requires c =
     let w = c.requires in
     let p = passed c.in_ok-in_turn.ensures in
     let e = c.need_of-n.ensures in
-    (e.kept, some_connection _ p.connections, omega (arith, p.room, c.claims_needs-needs.ensures w, front_places w e))
+    (e.kept, omega (arith, p.room, c.claims_needs-needs.ensures w, front_places w e))
 
 pub returns : goal.returns
 returns c =

@@ -12,10 +12,14 @@ pub returns-in_err-of_connection_and_clock : goal.returns-in_err-of_connection_a
 returns-in_err-of_connection_and_clock c =
     rw (hands-on _ c.from_residual.ensures.1) (refused (announces-transactions _ _ _ _ _).names c.requires _ c.in_err-of_connection_and_clock.ensures)
 
+pub invariant_of-announce_transactions : goal.invariant_of-announce_transactions
+invariant_of-announce_transactions c = record { positive = some_connection _ (passed c.in_ok-of_connection_and_clock.ensures).connections }
+
+pub invariant_of-announce_transactions-2 : goal.invariant_of-announce_transactions-2
+invariant_of-announce_transactions-2 c = record { early = early_clock _ (passed c.in_ok-of_connection_and_clock.ensures).clocks }
+
 pub announce_transactions-requires : goal.announce_transactions-requires
-announce_transactions-requires c =
-    let p = passed c.in_ok-of_connection_and_clock.ensures in
-    (c.need_of-n.ensures.kept, some_connection _ p.connections, omega (arith, early_clock _ p.clocks))
+announce_transactions-requires c = c.need_of-n.ensures.kept
 
 pub returns : goal.returns
 returns c =

@@ -12,11 +12,13 @@ pub returns-in_err-in_turn : goal.returns-in_err-in_turn
 returns-in_err-in_turn c =
     rw (hands-on _ c.from_residual.ensures.1) (refused (announces-parents _ _ _ _).names c.requires _ (c.in_err-in_turn.ensures ∙ rw c.hashes-count.ensures))
 
+pub invariant_of-announce_parents : goal.invariant_of-announce_parents
+invariant_of-announce_parents c = record { positive = some_connection _ (passed c.in_ok-in_turn.ensures).connections }
+
 pub announce_parents-listed-requires : goal.announce_parents-listed-requires
 announce_parents-listed-requires c =
     let p = passed c.in_ok-in_turn.ensures in (
       c.need_of-n.ensures.kept,
-      some_connection _ p.connections,
       omega (arith, p.few, c.hashes-count.ensures),
       omega
           (arith, p.few, p.room, c.hashes-count.ensures),
