@@ -5,17 +5,17 @@ use mathlib.Core.List.{List}
 use Rattle.ident.specs.Number.{Item}
 use Rattle.std.specs.Prelude.{Result, Ok, Err}
 use Rattle.wire.specs.declared.Refusal.{Refusal}
-use Rattle.wire.specs.declared.Refusal.TheVariants.{ShortBuffer, BadPayload}
+use Rattle.wire.specs.declared.Refusal.TheVariants.{AnswerTooShort, BadPayload}
 use Rattle.wire.specs.Calls.{items_reply, bytes_reply, Reads, Writes}
 use Rattle.crossing.specs.Payloads.{answer_status, answer_out, HandsItems, HandsBytes}
 
 pub hands-items : (p u : List ℕ) (a : Result ℕ Refusal) (was : ℕ) {u' : List ℕ} {r n : ℕ} → Reads p u u' (items_reply a u') → (r ≡ answer_status a) × (n ≡ answer_out a was) → HandsItems p u u' r was n
-hands-items p u (Err ShortBuffer) was d e = rw (e.0, e.1) (d, refl)
+hands-items p u (Err AnswerTooShort) was d e = rw (e.0, e.1) (d, refl)
 hands-items p u (Err BadPayload) was d e = rw (e.0, e.1) (d, refl)
 hands-items p u (Ok k) was d e = rw (e.0, e.1) (d, tt)
 
 pub hands_bytes : (l : List Item) (u : List ℕ) (a : Result ℕ Refusal) (was : ℕ) {u' : List ℕ} {r n : ℕ} → Writes l u u' (bytes_reply a) → (r ≡ answer_status a) × (n ≡ answer_out a was)
     → HandsBytes l u u' r was n
-hands_bytes l u (Err ShortBuffer) was d e = rw (e.0, e.1) (d, refl)
+hands_bytes l u (Err AnswerTooShort) was d e = rw (e.0, e.1) (d, refl)
 hands_bytes l u (Err BadPayload) was d e = rw (e.0, e.1) (d, refl)
 hands_bytes l u (Ok k) was d e = rw (e.0, e.1) (d, tt)

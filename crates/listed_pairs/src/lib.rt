@@ -1,5 +1,6 @@
 // A hash under both kinds: its Txid request and its Wtxid request together. Two walks go through the listing, one among the Txid requests and one among the
-// Wtxid requests; keys ascend, so each request is met once by each.
+// Wtxid requests; keys ascend, so each request is met once by each. No walk is a `for`: an `Iterator` has no lists to lend to `Lines::next`, and both walks go on by
+// more than a line at a time.
 #![tactic(auto)]
 
 ghost use Rattle.std.specs.Prelude.{◌≡◌, ◌<◌, ◌≤◌, length};
@@ -27,10 +28,7 @@ pub enum Pair {
 fn wtxid_line(l: Line) -> bool
     ensures { WtxidLine l result }
 {
-    match l {
-        Line::Request(r) => is_wtxid(r.kind),
-        _ => false,
-    }
+    matches!(l, Line::Request(r) if is_wtxid(r.kind))
 }
 
 // The lines from that of the first Wtxid request on.
@@ -106,7 +104,7 @@ fn side_by_side(
     let Some(b) = gather(back, w.kind, w.hash, a.count, conns, lists) else {
         return false;
     };
-    let once = all_distinct(conns, b.count);
+    let once = all_distinct(&conns[..b.count]);
     once & !(r.owner.is_some() & w.owner.is_some())
 }
 

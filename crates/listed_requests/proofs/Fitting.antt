@@ -1,77 +1,54 @@
--- Whether a candidate fits its request's key, in the code's words.
-use Prim.Native.Nat.{ℕ, ◌<◌}
+-- Hashes compared word by word, and whether one candidate more fits.
 use mathlib.Core.Path.{◌≡◌, refl, sym, ap, ◌∙◌}
-use mathlib.Core.Bool.{Bool, true, false, not, ◌&&◌}
+use mathlib.Core.Bool.{Bool, true, false, ◌&&◌}
 use mathlib.Core.List.{List, [], ◌∷◌, ◌++◌}
-use mathlib.Core.Option.{Option, none, some}
 use mathlib.Core.Logic.{inl, inr}
-use native.Mathlib.Omega.{arith}
-use lib.Dec.{ltb, eqb}
-use borrow.Author.Tests.{lt-ltb, le-ltb, ltb-true, ltb-false, eq-eqb, ne_eqb}
-use Rattle.ident.specs.declared.Kind.{Kind}
-use Rattle.ident.specs.Number.{Key, key_as, kind_of}
+use lib.Dec.{eqb}
+use borrow.Author.Tests.{eqb-true, eq-eqb}
+use Rattle.ident.specs.Number.{Key}
 use Rattle.regions.specs.declared.Quad.{Quad}
-use Rattle.regions.specs.Rows.{quad_number}
-use Rattle.machine.specs.Limits.{word}
+use Rattle.regions.specs.Rows.{quad_number, quad_of}
+use Rattle.regions.proofs.Order.{Small, quad-number, quad_four}
 use Rattle.machine.specs.State.{Candidate}
-use Rattle.machine.specs.SoundTest.{key_is, fits, all_fit}
+use Rattle.machine.specs.SoundTest.{fits, all_fit}
 use Rattle.machine.proofs.Tests.{test}
-use Rattle.listed_lines.specs.declared.line.Candidate as line-candidate
-use Rattle.listed_lines.specs.Given.{candidate_in}
-use Rattle.listed_requests.specs.Given.{key_with, kind_is}
 
--- ---- numbers compared
-
-pub below_not : (a b : ℕ) → true ≡ ltb a b → false ≡ eqb a b
-below_not a b e = let l = ltb-true a b (sym e) in sym (ne_eqb a b (λ z. omega arith))
-
-pub neither : (a b : ℕ) {r : Bool} → false ≡ ltb a b → r ≡ ltb b a → not r ≡ eqb a b
-neither a b {r} e d = elim (test (ltb b a)) [
-  | inl t ↦ let l = ltb-true b a t in ap not (d ∙ t) ∙ sym (ne_eqb a b (λ z. omega arith))
-  | inr t ↦ let l = ltb-false a b (sym e) in let k = ltb-false b a t in ap not (d ∙ t) ∙ sym (eq-eqb a b (omega arith))
+-- as the derived `==` compares them
+pub same_words : (a b : Quad) → Small a → Small b
+    → (eqb a.w3 b.w3 && (eqb a.w2 b.w2 && (eqb a.w1 b.w1 && eqb a.w0 b.w0))) ≡ eqb (quad_number a) (quad_number b)
+same_words a b p q = elim (test (eqb (quad_number a) (quad_number b))) [
+  | inl e ↦
+      let d : a ≡ b = sym (quad-number a p) ∙ ap quad_of (eqb-true _ _ e) ∙ quad-number b q in
+      rw (
+        e,
+        eq-eqb a.w3 b.w3 (ap (λ (x : Quad). x.w3) d),
+        eq-eqb a.w2 b.w2 (ap (λ (x : Quad). x.w2) d),
+        eq-eqb a.w1 b.w1 (ap (λ (x : Quad). x.w1) d),
+        eq-eqb a.w0 b.w0 (ap (λ (x : Quad). x.w0) d),
+      )
+  | inr e ↦ rw e (differ (λ d₃ d₂ d₁ d₀. absurd (apart e (alike d₃ d₂ d₁ d₀))))
 ]
+  where
+    alike : a.w3 ≡ b.w3 → a.w2 ≡ b.w2 → a.w1 ≡ b.w1 → a.w0 ≡ b.w0 → quad_number a ≡ quad_number b
+    alike d₃ d₂ d₁ d₀ = quad_four a ∙ rw (d₃, d₂, d₁, d₀) (sym (quad_four b))
 
--- ---- one candidate
+    apart : eqb (quad_number a) (quad_number b) ≡ false → quad_number a ≡ quad_number b → ⊥
+    apart e d = let t = eq-eqb _ _ d in cc
 
-key-is : (k : Kind) (h g : ℕ) (o : Option Kind) → key_is (record { kind = k; hash = h }) (key_as o g) ≡ (kind_is k o && eqb g h)
-key-is k h g none = refl
-key-is k h g (some j) = refl
-
-regrouped : (a b p q r s : Bool) → q ≡ true → r ≡ true → s ≡ true → ((a && b) && ((p && q) && (r && s))) ≡ (a && (b && p))
-regrouped false b p q r s d e f = refl
-regrouped true false p q r s d e f = refl
-regrouped true true false q r s d e f = refl
-regrouped true true true q r s d e f = rw (d, e, f)
-
-none_both : (a b : Bool) → (a && (b && false)) ≡ false
-none_both false b = refl
-none_both true false = refl
-none_both true true = refl
-
-module _ (k : Kind) (q : Quad) (c : line-candidate.Candidate) (a : c.connection < word) (b : c.ready < word) (d : c.priority < word) where
-  fits_is : fits (key_with k q) (candidate_in c) ≡ (kind_is k (kind_of c.kind) && (eqb (quad_number c.hash) (quad_number q) && ltb 0 c.connection))
-  fits_is =
-      ap (λ (x : Bool). x && ((ltb 0 c.connection && ltb c.connection word) && (ltb c.ready word && ltb c.priority word)))
-      (key-is k (quad_number q) (quad_number c.hash) (kind_of c.kind))
-      ∙ regrouped (kind_is k (kind_of c.kind)) (eqb (quad_number c.hash) (quad_number q)) (ltb 0 c.connection) (ltb c.connection word) (ltb c.ready word) (ltb c.priority word)
-      (lt-ltb c.connection word a) (lt-ltb c.ready word b) (lt-ltb c.priority word d)
-
-  pub no-connection : c.connection ≡ 0 → false ≡ fits (key_with k q) (candidate_in c)
-  no-connection e =
-      sym (fits_is ∙ ap (λ (x : Bool). kind_is k (kind_of c.kind) && (eqb (quad_number c.hash) (quad_number q) && x)) (le-ltb 0 c.connection (omega arith))
-      ∙ none_both (kind_is k (kind_of c.kind)) (eqb (quad_number c.hash) (quad_number q)))
-
-  pub other-kind : {g : Bool} → g ≡ kind_is k (kind_of c.kind) → g ≡ false → false ≡ fits (key_with k q) (candidate_in c)
-  other-kind e f = sym (fits_is ∙ ap (λ (x : Bool). x && (eqb (quad_number c.hash) (quad_number q) && ltb 0 c.connection)) (sym e ∙ f))
-
-  pub by_hash : {g r : Bool} → (c.connection ≡ 0 → ⊥) → g ≡ kind_is k (kind_of c.kind) → g ≡ true → r ≡ eqb (quad_number c.hash) (quad_number q) → r ≡ fits (key_with k q) (candidate_in c)
-  by_hash {g} {r} n e f s =
-      s ∙ sym (fits_is ∙ ap (λ (x : Bool). x && (eqb (quad_number c.hash) (quad_number q) && ltb 0 c.connection)) (sym e ∙ f)
-      ∙ ap (λ (x : Bool). eqb (quad_number c.hash) (quad_number q) && x) (lt-ltb 0 c.connection (omega arith)) ∙ and-true (eqb (quad_number c.hash) (quad_number q)))
-    where
-      and-true : (x : Bool) → (x && true) ≡ x
-      and-true true = refl
-      and-true false = refl
+    differ : (a.w3 ≡ b.w3 → a.w2 ≡ b.w2 → a.w1 ≡ b.w1 → a.w0 ≡ b.w0 → ⊥) → (eqb a.w3 b.w3 && (eqb a.w2 b.w2 && (eqb a.w1 b.w1 && eqb a.w0 b.w0))) ≡ false
+    differ n = elim (test (eqb a.w3 b.w3)) [
+      | inr f ↦ rw f
+      | inl f₃ ↦ elim (test (eqb a.w2 b.w2)) [
+        | inr f ↦ rw (f₃, f)
+        | inl f₂ ↦ elim (test (eqb a.w1 b.w1)) [
+          | inr f ↦ rw (f₃, f₂, f)
+          | inl f₁ ↦ elim (test (eqb a.w0 b.w0)) [
+            | inr f ↦ rw (f₃, f₂, f₁, f)
+            | inl f₀ ↦ absurd (n (eqb-true _ _ f₃) (eqb-true _ _ f₂) (eqb-true _ _ f₁) (eqb-true _ _ f₀))
+          ]
+        ]
+      ]
+    ]
 
 -- ---- one more
 

@@ -10,7 +10,7 @@ use lib.ListN.{length, take}
 use borrow.Author.Tests.{lt-ltb, le-leb, lt-leb, ne_eqb}
 use Rattle.std.specs.Prelude.{Option as Maybe, Some, None, is_some as is_there}
 use Rattle.ident.specs.declared.Kind.{Kind}
-use Rattle.ident.specs.declared.Kind.TheVariants.{Txid, Wtxid}
+use Rattle.ident.specs.declared.Kind.TheVariants.{Wtxid}
 use Rattle.ident.specs.Number.{top}
 use Rattle.ident.specs.Words.{hash_bytes}
 use Rattle.words.specs.Words.{number}
@@ -122,27 +122,6 @@ module _ (ps : List ℕ) (r : line-request.Request) where
     is = λ ws l. f ∙ sym (line_is ws l ∙ ap (λ (x : Bool). packs_in r && (x && mark_fits r.kind r.mark)) e
         ∙ ap (λ (x : Bool). packs_in r && x) d ∙ and-true (packs_in r));
   }
-
-module _ (k : Kind) (owned : Bool) (n : ℕ) {i p : Bool} where
-  pub packs-info : i ≡ true → p ≡ false → {b : Bool} → b ≡ same_kind k Wtxid → (owned && b) ≡ packs k owned i p n
-  packs-info e d f = rw (e, d, f)
-
-  pub packs-package : i ≡ false → p ≡ true → {b : Bool} → b ≡ same_kind k Wtxid → (owned && b) ≡ packs k owned i p n
-  packs-package e d f = rw (e, d, f)
-
-  pub packs_none : i ≡ false → p ≡ false → eqb n 0 ≡ packs k owned i p n
-  packs_none e d = rw (e, d)
-
--- ---- the mark
-
-pub not_marked : (k : Kind) (m : Bool) → m ≡ false → true ≡ mark_fits k m
-not_marked k m e = sym (ap (mark_fits k) e)
-
-pub marked-txid : (k : Kind) (m : Bool) → m ≡ true → k ≡ Txid → true ≡ mark_fits k m
-marked-txid k m e d = sym (ap (mark_fits k) e ∙ ap (λ (x : Kind). same_kind x Txid) d)
-
-pub marked-wtxid : (k : Kind) (m : Bool) → m ≡ true → k ≡ Wtxid → false ≡ mark_fits k m
-marked-wtxid k m e d = sym (ap (mark_fits k) e ∙ ap (λ (x : Kind). same_kind x Txid) d)
 
 -- ---- the owner
 

@@ -7,6 +7,7 @@ ghost use Rattle.listed_lines.specs.Given.{candidate_in};
 ghost use Rattle.listed_requests.specs.Given.{key_with, kind_is, most_gathered, Gathers};
 
 use crate::forms::next_candidate;
+use crate::lawful::is_wtxid;
 use listed_lines::cursor::{Lines, Lists};
 use listed_lines::line::Candidate;
 
@@ -20,10 +21,7 @@ pub struct Gathered {
 pub fn same_quad(a: regions::Quad, b: regions::Quad) -> bool
     ensures { result ≡ eqb (quad_number a) (quad_number b) }
 {
-    if regions::quad_less(a, b) {
-        return false;
-    }
-    !regions::quad_less(b, a)
+    a == b
 }
 
 // Whether an item of this kind gives a key of that kind.
@@ -31,18 +29,8 @@ fn gives(item: ident::ItemKind, kind: ident::Kind) -> bool
     ensures { result ≡ kind_is kind (kind_of item) }
 {
     match item {
-        ident::ItemKind::Transaction => match kind {
-            ident::Kind::Txid => true,
-            ident::Kind::Wtxid => false,
-        },
-        ident::ItemKind::WitnessTransaction => match kind {
-            ident::Kind::Txid => true,
-            ident::Kind::Wtxid => false,
-        },
-        ident::ItemKind::WTx => match kind {
-            ident::Kind::Txid => false,
-            ident::Kind::Wtxid => true,
-        },
+        ident::ItemKind::Transaction | ident::ItemKind::WitnessTransaction => !is_wtxid(kind),
+        ident::ItemKind::WTx => is_wtxid(kind),
         ident::ItemKind::Other(_) => false,
     }
 }
@@ -54,12 +42,7 @@ fn fits(c: Candidate, kind: ident::Kind, hash: regions::Quad) -> bool
     if c.connection == 0 {
         return false;
     }
-    let item = c.kind;
-    if !gives(item, kind) {
-        return false;
-    }
-    let h = c.hash;
-    same_quad(h, hash)
+    gives(c.kind, kind) && same_quad(c.hash, hash)
 }
 
 // The candidates that come next, of a request with this key: their connections are put behind n others. None if they are more than eight then.

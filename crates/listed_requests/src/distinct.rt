@@ -5,22 +5,17 @@ ghost use Rattle.machine.specs.Claim.{elem};
 ghost use Rattle.machine.specs.SoundTest.{no_repeat};
 ghost use Rattle.listed_lines.specs.Given.{hashes_of};
 
-// Whether x is one of the first n numbers.
-pub fn stands(list: &[u64], n: usize, x: u64) -> bool
-    requires { n ≤ length list.now }
-    ensures { result ≡ elem x (take n list.now) }
+pub fn stands(list: &[u64], x: u64) -> bool
+    ensures { result ≡ elem x list.now }
 {
-    list[..n].contains(&x)
+    list.contains(&x)
 }
 
-// Whether the first n numbers are distinct.
-pub fn all_distinct(list: &[u64], n: usize) -> bool
-    requires { n ≤ length list.now }
-    ensures { result ≡ no_repeat (take n list.now) }
+pub fn all_distinct(list: &[u64]) -> bool
+    ensures { result ≡ no_repeat list.now }
 {
-    for i in 0..n {
-        let x = list[i];
-        if stands(list, i, x) {
+    for i in 0..list.len() {
+        if stands(&list[..i], list[i]) {
             return false;
         }
     }

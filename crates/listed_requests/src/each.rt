@@ -31,13 +31,7 @@ fn rises(p: Pass, kind: ident::Kind, hash: regions::Quad) -> bool
 fn place_of(info: bool, packed: bool) -> u64
     ensures { result ≡ place_for info packed }
 {
-    if packed {
-        return 1;
-    }
-    if info {
-        return 1;
-    }
-    0
+    u64::from(info | packed)
 }
 
 // The next request: what is known behind it, if it passes.

@@ -15,49 +15,34 @@ use listed_lines::parts::Owner;
 pub fn is_wtxid(kind: ident::Kind) -> bool
     ensures { result ≡ same_kind kind Wtxid }
 {
-    match kind {
-        ident::Kind::Txid => false,
-        ident::Kind::Wtxid => true,
-    }
+    kind == ident::Kind::Wtxid
 }
 
 // "the mark only on Txid keys"
 fn mark_fits(kind: ident::Kind, mark: bool) -> bool
     ensures { result ≡ mark_fits kind mark }
 {
-    if !mark {
-        return true;
-    }
-    match kind {
-        ident::Kind::Txid => true,
-        ident::Kind::Wtxid => false,
-    }
+    !mark | !is_wtxid(kind)
 }
 
 // "flag or package only with an owner, never both, only on Wtxid keys; parents .. only beside flag or package"
 fn packs(kind: ident::Kind, owned: bool, info: bool, packed: bool, parents: usize) -> bool
     ensures { result ≡ packs kind owned info packed parents }
 {
-    if info {
-        if packed {
-            return false;
-        }
-        return owned & is_wtxid(kind);
+    match (info, packed) {
+        (true, true) => false,
+        (false, false) => parents == 0,
+        _ => owned & is_wtxid(kind),
     }
-    if packed {
-        return owned & is_wtxid(kind);
-    }
-    parents == 0
 }
 
-// Whether an owner, if there is one, is among the first n connections.
-fn owner_stands(o: Option<Owner>, conns: &[u64], n: usize) -> bool
-    requires { n ≤ length conns.now }
-    ensures { result ≡ owner_among (owner_of o) (take n conns.now) }
+// Whether an owner, if there is one, is among the connections.
+fn owner_stands(o: Option<Owner>, conns: &[u64]) -> bool
+    ensures { result ≡ owner_among (owner_of o) conns.now }
 {
     match o {
         None => true,
-        Some(o) => stands(conns, n, o.connection),
+        Some(o) => stands(conns, o.connection),
     }
 }
 
@@ -90,8 +75,8 @@ pub fn judge(lines: &mut Lines, r: Request, conns: &mut [u64], lists: &mut Lists
     }
     let g = gather(lines, r.kind, r.hash, 0, conns, lists)?;
     let count = g.count;
-    let once = all_distinct(conns, count);
-    let owner = owner_stands(r.owner, conns, count);
+    let once = all_distinct(&conns[..count]);
+    let owner = owner_stands(r.owner, &conns[..count]);
     let fit = g.fit & once & owner & (0 < count);
     if !fit {
         return None;

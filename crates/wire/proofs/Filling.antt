@@ -1,5 +1,5 @@
 -- Items written to a buffer one behind the other, as the two loops do it.
-use Prim.Native.Nat.{ℕ, ◌+◌, ◌*◌, ◌≤◌, ◌<◌, ◌%◌, ◌/◌}
+use Prim.Native.Nat.{ℕ, ◌+◌, ◌*◌, ◌≤◌, ◌<◌, ◌%◌, ◌/◌, ◌^◌}
 use mathlib.Core.Path.{◌≡◌, refl, sym, ap, ◌∙◌}
 use mathlib.Core.List.{List, [], ◌∷◌, ◌++◌, append_assoc, append-nil}
 use native.Mathlib.Nat.{add-zero}
@@ -7,6 +7,7 @@ use native.Mathlib.Numerals.{add-one, towards_suc}
 use native.Mathlib.Omega.{arith}
 use lib.ListN.{length, take, drop, get_or, set, take-append-drop}
 use lib.Seq.{take-suc, take-take, drop-drop, length-take-le, take_all, sets-eq}
+use Rattle.std.specs.Int.{w32, to_le_bytes}
 use Rattle.ident.specs.declared.ItemKind.TheVariants.{Transaction}
 use Rattle.ident.specs.Number.{Item, type_of}
 use Rattle.ident.proofs.TypeNumbers.{type-kind}
@@ -43,12 +44,24 @@ four-digits s a h =
       number_step 256 s a 3 0 (omega arith),
     )
 
-pub stores_four : (s : List ℕ) (a t : ℕ) → a + 4 ≤ length s
-    → set (set (set (set s a (t % 256)) (a + 1) (t / 256 % 256)) (a + 2) (t / 256 / 256 % 256)) (a + 3) (t / 256 / 256 / 256 % 256) ≡ splice s a (digits 256 4 t)
-unfolding splice digits
-stores_four s a t h =
-    let x = t % 256 ∷ t / 256 % 256 ∷ t / 256 / 256 % 256 ∷ t / 256 / 256 / 256 % 256 ∷ [] in
+-- the bytes of a number, as the library has them, are its digits
+bytes-digits : (t : ℕ) → to_le_bytes w32 t ≡ digits 256 4 t
+unfolding digits
+bytes-digits t =
+    let e₂ : t / 256 ^ 2 ≡ t / 256 / 256 = omega arith in
+    let e₃ : t / 256 ^ 3 ≡ t / 256 / 256 / 256 = omega arith in
+    rw (e₂, e₃)
+
+put-four : (s : List ℕ) (a b0 b1 b2 b3 : ℕ) → a + 4 ≤ length s
+    → set (set (set (set s a b0) (a + 1) b1) (a + 2) b2) (a + 3) b3 ≡ splice s a (b0 ∷ b1 ∷ b2 ∷ b3 ∷ [])
+unfolding splice
+put-four s a b0 b1 b2 b3 h =
+    let x = b0 ∷ b1 ∷ b2 ∷ b3 ∷ [] in
     simp towards_suc (simp towards_suc at (sets-eq x s a h ∙ append_assoc (take a s) x (drop (a + 4) s)))
+
+pub stores_four : (s : List ℕ) (a t : ℕ) {b : List ℕ} → a + 4 ≤ length s → b ≡ to_le_bytes w32 t
+    → set (set (set (set s a (get_or b 0 0)) (a + 1) (get_or b 1 0)) (a + 2) (get_or b 2 0)) (a + 3) (get_or b 3 0) ≡ splice s a (digits 256 4 t)
+stores_four s a t h e = rw e (put-four s a _ _ _ _ h ∙ ap (splice s a) (bytes-digits t))
 
 -- ---- the count
 

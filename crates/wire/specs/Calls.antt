@@ -7,7 +7,7 @@ use Rattle.machine.specs.Call.{Buffer}
 use Rattle.machine.specs.Step.{hash_bytes, written}
 use Rattle.lent_lists.specs.Items.{item_bytes, item_in}
 use Rattle.wire.specs.declared.Refusal.{Refusal}
-use Rattle.wire.specs.declared.Refusal.TheVariants.{ShortBuffer, BadPayload}
+use Rattle.wire.specs.declared.Refusal.TheVariants.{AnswerTooShort, BadPayload}
 use Rattle.wire.specs.Payload.{items_of, payload_of, writable}
 
 -- "gets number 10"
@@ -18,7 +18,7 @@ abbrev pub short_buffer : ℕ
 short_buffer = 7
 
 abbrev pub refusal_number : Refusal → ℕ
-refusal_number ShortBuffer = short_buffer
+refusal_number AnswerTooShort = short_buffer
 refusal_number BadPayload = bad_payload
 
 pub data Reply : Type 0 where

@@ -16,7 +16,7 @@ ghost use Rattle.wire.specs.Steps.{Begins, Holds, Counted};
 // Why a call is refused.
 #[derive(Clone, Copy, PartialEq, Eq, Debug)]
 pub enum Refusal {
-    ShortBuffer,
+    AnswerTooShort,
     BadPayload,
 }
 
@@ -26,7 +26,7 @@ impl From<Refusal> for u64 {
 
     fn from(refusal: Refusal) -> u64 {
         match refusal {
-            Refusal::ShortBuffer => 7,
+            Refusal::AnswerTooShort => 7,
             Refusal::BadPayload => 10,
         }
     }
@@ -73,9 +73,7 @@ fn count_of(p: &[u8]) -> Option<(usize, usize)>
     if p.len() < 3 {
         return None;
     }
-    let low = u64::from(p[1]);
-    let high = u64::from(p[2]);
-    let n = low + high * 256;
+    let n = u64::from(u16::from_le_bytes([p[1], p[2]]));
     if n < TWO_MORE {
         return None;
     }
@@ -89,11 +87,7 @@ fn type_at(p: &[u8], a: usize) -> u64
     requires { a + 4 ≤ length p.now }
     ensures { result ≡ number 256 (take 4 (drop a p.now)) }
 {
-    let b0 = u64::from(p[a]);
-    let b1 = u64::from(p[a + 1]);
-    let b2 = u64::from(p[a + 2]);
-    let b3 = u64::from(p[a + 3]);
-    b0 + b1 * 0x100 + b2 * 0x1_0000 + b3 * 0x100_0000
+    u64::from(u32::from_le_bytes([p[a], p[a + 1], p[a + 2], p[a + 3]]))
 }
 
 // Stores the item of the payload that stands from index a on as the i-th of the list.
@@ -126,7 +120,7 @@ pub fn read_payload(p: &[u8], answer: &mut [u8]) -> Result<u64, Refusal>
         return Err(Refusal::BadPayload);
     };
     if answer.len() < n * lent_lists::ITEM {
-        return Err(Refusal::ShortBuffer);
+        return Err(Refusal::AnswerTooShort);
     }
     read_items(p, at, n, answer);
     Ok(n as u64)
@@ -153,13 +147,11 @@ fn put_type(s: &mut [u8], a: usize, t: u32)
     requires { a + 4 ≤ length s.old }
     ensures { s.new ≡ splice s.old a (digits 256 4 t) }
 {
-    let t1 = t / 256;
-    let t2 = t1 / 256;
-    let t3 = t2 / 256;
-    s[a] = (t % 256) as u8;
-    s[a + 1] = (t1 % 256) as u8;
-    s[a + 2] = (t2 % 256) as u8;
-    s[a + 3] = (t3 % 256) as u8;
+    let [b0, b1, b2, b3] = t.to_le_bytes();
+    s[a] = b0;
+    s[a + 1] = b1;
+    s[a + 2] = b2;
+    s[a + 3] = b3;
 }
 
 // Stores the i-th item of the list as a payload has it, from index a on.
@@ -218,7 +210,7 @@ pub fn write_payload(items: &[u8], answer: &mut [u8]) -> Result<u64, Refusal>
     let at = count_bytes(n);
     let need = at + n * WIRE_BYTES;
     if answer.len() < need {
-        return Err(Refusal::ShortBuffer);
+        return Err(Refusal::AnswerTooShort);
     }
     put_count(answer, n);
     write_items(items, n, answer, at);

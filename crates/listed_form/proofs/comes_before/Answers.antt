@@ -1,13 +1,9 @@
 -- `listed_form::comes_before` meets its contract.
-use mathlib.Core.Path.{◌∙◌}
 use native.Mathlib.Omega.{arith}
 use Rattle.regions.specs.Rows.{quad_number}
 use Rattle.reading.proofs.Stored.{quad_below}
-use Rattle.listed_form.proofs.Meeting.{both_txid, both_wtxid, txid_first, wtxid_last}
+use Rattle.listed_form.proofs.Meeting.{txid_first, wtxid_last}
 use Rattle.listed_form.proofs.comes_before.Goals as goal
-
-pub returns-in-Txid-l : goal.returns-in-Txid-l
-returns-in-Txid-l c = c.quad_less.ensures ∙ both_txid _ _ c.in-Txid.is c.in-Txid-l.is
 
 pub returns-in-Wtxid-l : goal.returns-in-Wtxid-l
 returns-in-Wtxid-l c =
@@ -18,6 +14,3 @@ pub returns-in-Txid-l-2 : goal.returns-in-Txid-l-2
 returns-in-Txid-l-2 c =
     let g = c.args.g in
     wtxid_last _ (quad_number g) (quad_below g (omega arith) (omega arith) (omega arith) (omega arith)) c.in-Wtxid.is c.in-Txid-l-2.is
-
-pub returns-in-Wtxid-l-2 : goal.returns-in-Wtxid-l-2
-returns-in-Wtxid-l-2 c = c.quad_less-in-Wtxid-l-2.ensures ∙ both_wtxid _ _ c.in-Wtxid.is c.in-Wtxid-l-2.is

@@ -1,17 +1,10 @@
 -- `listed_form::placed` meets its contract. The loop's invariant: the lines that are left, from what has been met, are placed where all of them are.
 use mathlib.Core.Path.{refl, ◌∙◌}
-use native.Mathlib.Omega.{arith}
 use Rattle.listed_form.proofs.Forms.{scan_on, scan_stop, scan_end}
 use Rattle.listed_form.proofs.placed.Goals as goal
 
-pub loop-line-init : goal.loop-line-init
-loop-line-init c = (refl, record { is = refl })
-
 pub returns-in_default-meets : goal.returns-in_default-meets
 returns-in_default-meets c = rw (← c.loop-line.invariant.0) (scan_stop (scan_on c.loop-line.invariant.1 c.in-Some.ensures.line c.in_default-meets.ensures))
-
-pub loop-line-smaller : goal.loop-line-smaller
-loop-line-smaller c = let l = c.in-Some.ensures.line in rw c.in-Some.ensures.same (omega (arith, l.on, l.inside))
 
 pub loop-line-preserved : goal.loop-line-preserved
 loop-line-preserved c =

@@ -1,8 +1,7 @@
 -- `listed_requests::distinct::stands` meets its contract.
 use mathlib.Core.Path.{◌∙◌}
-use lib.ListN.{take}
 use Rattle.listed_requests.proofs.Repeats.{any_elem}
 use Rattle.listed_requests.proofs.distinct.stands.Goals as goal
 
 pub returns : goal.returns
-returns c = c.contains.ensures.value ∙ any_elem c.args.x (take c.args.n c.args.list.now)
+returns c = c.contains.ensures.value ∙ any_elem c.args.x c.args.list.now

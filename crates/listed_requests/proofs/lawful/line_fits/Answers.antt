@@ -1,6 +1,5 @@
 -- `listed_requests::lawful::line_fits` meets its contract.
 use mathlib.Core.Path.{sym, ◌∙◌}
-use borrow.Author.Tests.{not-true, not-false}
 use Rattle.listed_requests.proofs.Judging.{too-many-parents, parent-twice, mark-misplaced, by_package}
 use Rattle.listed_requests.proofs.lawful.line_fits.Goals as goal
 
@@ -9,14 +8,14 @@ returns-then-n-gt100 c = too-many-parents c.args.parents.now c.args.r c.if-n-gt1
 
 pub returns-then-not-hashes_distinct : goal.returns-then-not-hashes_distinct
 returns-then-not-hashes_distinct c =
-    parent-twice c.args.parents.now c.args.r (sym c.hashes_distinct.ensures ∙ not-true _ c.if-not-hashes_distinct.true-raw)
+    parent-twice c.args.parents.now c.args.r (sym c.hashes_distinct.ensures ∙ c.if-not-hashes_distinct.true)
 
 pub returns-then-not-mark_fits : goal.returns-then-not-mark_fits
 returns-then-not-mark_fits c =
-    mark-misplaced c.args.parents.now c.args.r (sym c.hashes_distinct.ensures ∙ not-false _ c.if-not-hashes_distinct.false-raw)
-    (sym c.mark_fits.ensures ∙ not-true _ c.if-not-mark_fits.true-raw)
+    mark-misplaced c.args.parents.now c.args.r (sym c.hashes_distinct.ensures ∙ c.if-not-hashes_distinct.false)
+    (sym c.mark_fits.ensures ∙ c.if-not-mark_fits.true)
 
 pub returns : goal.returns
 returns c =
-    by_package c.args.parents.now c.args.r (sym c.hashes_distinct.ensures ∙ not-false _ c.if-not-hashes_distinct.false-raw)
-    (sym c.mark_fits.ensures ∙ not-false _ c.if-not-mark_fits.false-raw) (rw (c.is_some.ensures, c.is_some-2.ensures) at c.packs.ensures)
+    by_package c.args.parents.now c.args.r (sym c.hashes_distinct.ensures ∙ c.if-not-hashes_distinct.false)
+    (sym c.mark_fits.ensures ∙ c.if-not-mark_fits.false) (rw (c.is_some.ensures, c.is_some-2.ensures) at c.packs.ensures)
