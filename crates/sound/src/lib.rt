@@ -25,7 +25,7 @@ ghost use Rattle.sound.specs.Whole.{PollPlain, CursorPlain, SizesPlain, HeadPlai
 
 use place::{places_fit, same_hash};
 
-// ---- the header
+// ---- the header (its tags as numbers: the bytes may hold any, and the test is which of them name a case)
 
 fn poll_fits(tag: u64, time: u64) -> bool
     ensures { Decides result (PollPlain tag time) }

@@ -23,7 +23,7 @@ const SLOTS: u64 = 4096;
 
 const SPREAD: u64 = 0x1E37_79B1;
 
-// Whether two hashes are equal.
+// Whether two hashes are equal. (The derived test: what it says of the numbers is a lemma on four words, told once here.)
 pub fn same_hash(a: regions::Quad, b: regions::Quad) -> bool
     ensures { Decides result (quad_number a ≡ quad_number b) }
 {
@@ -59,7 +59,8 @@ fn slot(h: regions::Quad) -> usize
     (b * SPREAD / 0x10_0000 % SLOTS) as usize
 }
 
-// The same of an h that is not among them unless it is marked.
+// The same of an h that is not among them unless it is marked. (`marked` is what a slot shows, no choice of a step: with the test in the
+// caller, its two ways to a no would meet there and be proved alike twice.)
 fn has_marked(s: &[u8], a: usize, from: usize, to: usize, h: regions::Quad, marked: bool) -> bool
     requires { (from ≤ to) × (8 * (a + 4 * to) ≤ length s.now) × (marked ≡ false → elem (quad_number h) (hashes_in (words s.now) a from to) ≡ false) }
     ensures { result ≡ elem (quad_number h) (hashes_in (words s.now) a from to) }
@@ -87,7 +88,7 @@ fn distinct(s: &[u8], a: usize, n: usize, slots: &mut [u16], mark: u16) -> bool
     true
 }
 
-// Whether stage, combined hash and number of wtxids go together.
+// Whether stage, combined hash and number of wtxids go together. (The stage as a number: the bytes may hold any.)
 fn stage_fits(stage: u64, combined: regions::Quad, n: u64) -> bool
     ensures { Decides result (StagePlain stage (quad_number combined) n) }
 {

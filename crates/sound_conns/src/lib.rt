@@ -20,7 +20,7 @@ ghost use Rattle.machine.specs.Typed.{Each};
 ghost use Rattle.regions.specs.Rows.{row_size, read_row, conn_size, read_conn};
 ghost use Rattle.store.specs.FlatSound.{ConnFits};
 ghost use Rattle.sound_rows.specs.Rows.{RowsSound};
-ghost use Rattle.sound_conns.specs.Conns.{Entries, EntryStep, names, Rising, Low, Lessening, Inside, Holds, Taking, Left, Tallying, Within, Window, LastOf, few, many, most, ConnsSound};
+ghost use Rattle.sound_conns.specs.Conns.{Entries, EntryStep, names, Rising, Low, Lessening, Inside, Holds, Taking, Left, Tallying, Within, Window, LastOf, many, ConnsSound};
 
 // A counter has in its low half how many rows its entry has left, in its high half how many of them may own their request.
 const HALF: u32 = 0x1_0000;
@@ -50,6 +50,7 @@ fn entries_fit(conns: Records<Conn>) -> bool
     ensures { Decides result (Entries (recs conn_size read_conn conns.entry.count (words conns.entry.bytes.now)))
         × (result ≡ true → Low (names conns.entry.count (words conns.entry.bytes.now))) }
 {
+    // the entry before: of a closure that changes it, `all` would say nothing
     let mut p = Conn {
         conn: 0,
         held: 0,
@@ -181,16 +182,7 @@ fn count_rows(
 fn used_up(n: usize, lo: usize, t: &[u32]) -> bool
     ensures { Decides result ((j : ℕ) → j < length t.now → lo + j < n → get_or t.now j 0 ≡ 0) }
 {
-    for i in lo..n {
-        let j = i - lo;
-        if j >= t.len() {
-            return true;
-        }
-        if t[j] != 0 {
-            return false;
-        }
-    }
-    true
+    t.iter().take(n.saturating_sub(lo)).all(|v| *v == 0)
 }
 
 // Whether each of the entries that t has a counter for has its rows' counts, and each connection inside has an entry.
@@ -216,32 +208,21 @@ fn window_fits(
     used_up(conns.count, pass.lo, t)
 }
 
-// The window of the first few entries.
-fn few_fit(rows: Records<Row>, conns: Records<Conn>) -> bool
-    requires { Entries (recs conn_size read_conn conns.count (words conns.bytes.now)) × Holds 0 most (names conns.count (words conns.bytes.now)) 0 few }
-    ensures { Decides result (Window (names conns.entry.count (words conns.entry.bytes.now)) (recs row_size read_row rows.entry.count (words rows.entry.bytes.now))
-        (recs conn_size read_conn conns.entry.count (words conns.entry.bytes.now)) 0 most 0 few) }
-{
-    let mut slots: [u16; 2560] = [0; 2560];
-    let mut t: [u32; FEW] = [0; FEW];
-    let all = Pass {
-        lo: 0,
-        done: 0,
-        last: u64::MAX,
-    };
-    window_fits(rows, conns, &mut t, &mut slots, FEW_MASK, all)
-}
-
-// The window of the many entries that the pass counts. (By itself, so that its arrays are on the stack only where they are needed.)
-fn many_fit(rows: Records<Row>, conns: Records<Conn>, pass: Pass) -> bool
+// The same, with N counters and SLOTS slots on the stack.
+fn fits_with<const N: usize, const SLOTS: usize>(
+    rows: Records<Row>,
+    conns: Records<Conn>,
+    mask: u64,
+    pass: Pass,
+) -> bool
     requires { Entries (recs conn_size read_conn conns.count (words conns.bytes.now)) × (pass.lo ≤ conns.count)
-        × Holds pass.done pass.last (names conns.count (words conns.bytes.now)) pass.lo many }
+        × (mask < 2 ^ 32) × (mask + 1 + mask / 4 < SLOTS) × (SLOTS < 2 ^ 32) × (N < 2 ^ 32) × Holds pass.done pass.last (names conns.count (words conns.bytes.now)) pass.lo N }
     ensures { Decides result (Window (names conns.entry.count (words conns.entry.bytes.now)) (recs row_size read_row rows.entry.count (words rows.entry.bytes.now))
-        (recs conn_size read_conn conns.entry.count (words conns.entry.bytes.now)) pass.done pass.last pass.lo many) }
+        (recs conn_size read_conn conns.entry.count (words conns.entry.bytes.now)) pass.done pass.last pass.lo N) }
 {
-    let mut slots: [u16; 20480] = [0; 20480];
-    let mut t: [u32; MANY] = [0; MANY];
-    window_fits(rows, conns, &mut t, &mut slots, MANY_MASK, pass)
+    let mut slots: [u16; SLOTS] = [0; SLOTS];
+    let mut t: [u32; N] = [0; N];
+    window_fits(rows, conns, &mut t, &mut slots, mask, pass)
 }
 
 // The last connection of the many entries from lo on, or the greatest number if no entry is behind them.
@@ -265,13 +246,20 @@ pub fn conns_fit(rows: Records<Row>, conns: Records<Conn>) -> bool
         return false;
     }
     if conns.count <= FEW {
-        return few_fit(rows, conns);
+        let all = Pass {
+            lo: 0,
+            done: 0,
+            last: u64::MAX,
+        };
+        return fits_with::<FEW, 2560>(rows, conns, FEW_MASK, all);
     }
     let mut lo = 0;
     let mut done = 0;
+    // a window at a time: of an item of `step_by` a proof knows that `next` gave it, and not that it is the one before and MANY
     while lo < conns.count {
         let last = last_of(conns, lo);
-        if !many_fit(rows, conns, Pass { lo, done, last }) {
+        let pass = Pass { lo, done, last };
+        if !fits_with::<MANY, 20480>(rows, conns, MANY_MASK, pass) {
             return false;
         }
         done = last;

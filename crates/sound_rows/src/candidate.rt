@@ -15,7 +15,8 @@ fn row_fits(r: regions::Row) -> bool
     (r.conn != 0) & known & idle & (txid | bare)
 }
 
-// Whether u is less than v, or equal to it and what stands behind them is fit.
+// Whether u is less than v, or equal to it and what stands behind them is fit. (Of words, with `|` and `&`: the order that a hash derives
+// branches at each word, and which way cannot be foretold.)
 fn ahead(u: u64, v: u64, rest: bool) -> bool
     ensures { result ≡ is_ahead u v rest }
 {
@@ -43,7 +44,7 @@ pub fn rows_fit(rows: regions::listed::Records<regions::Row>) -> bool
     if rows.count == 0 {
         return true;
     }
-    let mut p = rows.get(0);
+    let mut p = rows.get(0); // the row before: of a closure that changes it, `all` would say nothing
     for i in 0..rows.count {
         let r = rows.get(i);
         if !row_fits(r) {

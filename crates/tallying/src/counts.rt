@@ -5,19 +5,14 @@ ghost use Rattle.regions.specs.Rows.{conn_size};
 ghost use Rattle.tallying.specs.Entries.{Underway, EntryAt, Counts, Filled, Settled};
 
 use crate::heap;
-use regions::CONN;
+use regions::listed::Records;
+use regions::{CONN, Conn};
 
-// Whether the p-th entry is one of the first m, and x's.
-fn is_entry(r: &[u8], m: usize, p: usize, x: u64) -> bool
-    requires { 8 * (conn_size * m) ≤ length r.now }
-    ensures { EntryAt (words r.now) m p x result }
+// Whether there is a p-th entry, and it is x's.
+fn is_entry(table: Records<Conn>, p: usize, x: u64) -> bool
+    ensures { EntryAt (words table.entry.bytes.now) table.entry.count p x result }
 {
-    if p < m {
-        let c = regions::read::<regions::Conn>(r, p);
-        c.conn == x
-    } else {
-        false
-    }
+    p < table.count && table.get(p).conn == x
 }
 
 // Counts the j-th entry into the table, which has m entries. Answers how many it has then.
@@ -25,12 +20,12 @@ fn count(r: &mut [u8], m: usize, j: usize) -> usize
     requires { (m ≤ j) × (8 * (conn_size * (j + 1)) ≤ length r.old) × Underway (words r.old) m j }
     ensures { (result ≤ j + 1) × Counts (words r.old) (words r.new) m j result }
 {
-    let c = regions::read::<regions::Conn>(r, j);
+    let c = regions::read::<Conn>(r, j);
     let o = c.owned % 2;
     let p = regions::seek_conn(r, m, c.conn);
-    if is_entry(r, m, p, c.conn) {
-        let e = regions::read::<regions::Conn>(r, p);
-        let d = regions::Conn {
+    if is_entry(Records::new(r, m), p, c.conn) {
+        let e = regions::read::<Conn>(r, p);
+        let d = Conn {
             conn: e.conn,
             held: e.held + 1,
             owned: e.owned + o,
@@ -38,7 +33,7 @@ fn count(r: &mut [u8], m: usize, j: usize) -> usize
         regions::write(r, p, d);
         return m;
     }
-    let d = regions::Conn {
+    let d = Conn {
         conn: c.conn,
         held: 1,
         owned: o,

@@ -15,13 +15,18 @@ returns-then-not-entries_fit c =
     let cs = recs conn_size read_conn a.conns.count (words a.conns.bytes.now) in
     λ s z. failed (Entries cs) c.entries_fit.result c.if-not-entries_fit.true-raw c.entries_fit.ensures.0 (conns-entries (recs row_size read_row a.rows.count (words a.rows.bytes.now)) cs s.fit z)
 
-pub few_fit-requires : goal.few_fit-requires
-few_fit-requires c =
+pub fits_with-requires : goal.fits_with-requires
+fits_with-requires c =
     let a = c.args in
     let v = words a.conns.bytes.now in
     let e = passed (Entries (recs conn_size read_conn a.conns.count v)) c.entries_fit.result c.if-not-entries_fit.false-raw c.entries_fit.ensures.0 in
     let b = c.entries_fit.ensures.1 (not-false _ c.if-not-entries_fit.false-raw) in (
       e,
+      omega arith,
+      omega arith,
+      omega arith,
+      omega arith,
+      omega arith,
       λ j h l. let m : 0 + j < a.conns.count = omega (arith, length-names a.conns.count v) in (entries-positive a.conns.count v e (0 + j) m, b (0 + j) l),
     )
 
@@ -30,7 +35,7 @@ returns-then-conns-le-FEW c =
     let a = c.args in
     let v = words a.conns.bytes.now in
     let e = passed (Entries (recs conn_size read_conn a.conns.count v)) c.entries_fit.result c.if-not-entries_fit.false-raw c.entries_fit.ensures.0 in
-    λ s. decides_iff c.few_fit.result (few_iff (recs row_size read_row a.rows.count (words a.rows.bytes.now)) a.conns.count v few (omega arith) s.fit e) c.few_fit.ensures
+    λ s. decides_iff c.fits_with.result (few_iff (recs row_size read_row a.rows.count (words a.rows.bytes.now)) a.conns.count v few (omega arith) s.fit e) c.fits_with.ensures
 
 pub loop-lo-init : goal.loop-lo-init
 loop-lo-init c =
@@ -48,23 +53,26 @@ last_of-last-requires c =
       c.entries_fit.ensures.1 (not-false _ c.if-not-entries_fit.false-raw),
     )
 
-pub many_fit-requires : goal.many_fit-requires
-many_fit-requires c =
+pub fits_with-requires-in-loop-lo : goal.fits_with-requires-in-loop-lo
+fits_with-requires-in-loop-lo c =
     let a = c.args in
     let v = words a.conns.bytes.now in (
-      passed (Entries (recs conn_size read_conn a.conns.count v))
-          c.entries_fit.result c.if-not-entries_fit.false-raw c.entries_fit.ensures.0,
+      passed (Entries (recs conn_size read_conn a.conns.count v)) c.entries_fit.result c.if-not-entries_fit.false-raw c.entries_fit.ensures.0,
+      omega arith,
+      omega arith,
+      omega arith,
+      omega arith,
       omega arith,
       walked_holds (recs row_size read_row a.rows.count (words a.rows.bytes.now)) a.conns.count v c.loop-lo.invariant c.last_of-last.ensures,
     )
 
-pub returns-then-not-many_fit : goal.returns-then-not-many_fit
-returns-then-not-many_fit c =
+pub returns-then-not-fits_with : goal.returns-then-not-fits_with
+returns-then-not-fits_with c =
     let a = c.args in
     let v = words a.conns.bytes.now in
     let rs = recs row_size read_row a.rows.count (words a.rows.bytes.now) in
     λ s z. failed (Window (names a.conns.count v) rs (recs conn_size read_conn a.conns.count v) c.loop-lo.done c.last_of-last.result
-    c.loop-lo.lo many) c.many_fit.result c.if-not-many_fit.true-raw c.many_fit.ensures
+    c.loop-lo.lo many) c.fits_with-in-loop-lo.result c.if-not-fits_with.true-raw c.fits_with-in-loop-lo.ensures
     (sound-window rs a.conns.count v c.loop-lo.done c.last_of-last.result c.loop-lo.lo many z)
 
 pub loop-lo-preserved : goal.loop-lo-preserved
@@ -74,7 +82,7 @@ loop-lo-preserved c =
     let rs = recs row_size read_row a.rows.count (words a.rows.bytes.now) in
     walked_turn rs a.conns.count v c.loop-lo.invariant c.last_of-last.ensures
     (passed (Window (names a.conns.count v) rs (recs conn_size read_conn a.conns.count v) c.loop-lo.done c.last_of-last.result
-    c.loop-lo.lo many) c.many_fit.result c.if-not-many_fit.false-raw c.many_fit.ensures)
+    c.loop-lo.lo many) c.fits_with-in-loop-lo.result c.if-not-fits_with.false-raw c.fits_with-in-loop-lo.ensures)
 
 pub returns : goal.returns
 returns c =
