@@ -28,6 +28,7 @@ fn passed(best: Option<regions::Row>, r: regions::Row) -> bool
     stays(r.bits) | best.is_some_and(|row| r.prio < row.prio)
 }
 
+// What a row is in the order of. (It has two keys, this one and the machine's, `key_of` below: a name tells them apart where `into` would not.)
 pub fn row_key(r: regions::Row) -> regions::Key
     ensures { result ≡ key_of r }
 {
@@ -52,7 +53,8 @@ fn key_after(a: regions::Row, b: regions::Row) -> bool
     b.conn < a.conn
 }
 
-// Whether a comes after b by (priority, key, connection).
+// Whether a comes after b by (priority, key, connection). (No derived order: in the store rows are in another, that of their keys. A type for
+// this one would be made of both rows for each test, of which the first comparison decides nearly all.)
 pub fn after(a: regions::Row, b: regions::Row) -> bool
     ensures { result ≡ machine.after (entry_at a) (entry_at b) }
 {

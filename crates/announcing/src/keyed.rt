@@ -53,12 +53,14 @@ fn full(s: &[u8]) -> bool
 }
 
 // A preferred announcement comes in if there is one that gives way to it.
-fn in_place_of(victim: Option<regions::Row>) -> Verdict
-    ensures { result ≡ in_place_of victim }
-{
-    match victim {
-        None => Verdict::Refused,
-        Some(row) => Verdict::Replaces(row),
+impl From<Option<regions::Row>> for Verdict {
+    ghost from_gives = { λ victim v. v ≡ in_place_of victim };
+
+    fn from(victim: Option<regions::Row>) -> Verdict {
+        match victim {
+            None => Verdict::Refused,
+            Some(row) => Verdict::Replaces(row),
+        }
     }
 }
 
@@ -73,13 +75,13 @@ fn decide(s: &[u8], k: ident::Key, c: requests::Candidate) -> Verdict
     }
     if crowded(s, h) {
         if c.preferred {
-            return in_place_of(evict::victim_at(s, h));
+            return Verdict::from(evict::victim_at(s, h));
         }
         return Verdict::Refused;
     }
     if full(s) {
         if c.preferred {
-            return in_place_of(evict::victim_anywhere(s));
+            return Verdict::from(evict::victim_anywhere(s));
         }
         return Verdict::Refused;
     }

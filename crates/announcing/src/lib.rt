@@ -13,7 +13,8 @@ pub mod keyed;
 pub mod parent;
 pub mod parents;
 
-// An item of any other kind than t, v and w has no key.
+// An item of any other kind than t, v and w has no key. (The two differ in the call at the key: one function for both would take a closure that
+// writes the lent store, and say in its clauses what such a closure promises, where each is a test and a call.)
 pub fn announce(s: &mut [u8], c: requests::Candidate) -> bool
     requires { Kept s.old }
     ensures { Answered s.old s.new result (λ m t. machine.announce m (candidate_of c) t) }

@@ -30,7 +30,7 @@ pub struct Known {
 const FEW: usize = 4;
 
 impl Known {
-    // No victim is listed.
+    // No victim is listed. (`spent` is kept, and picks nothing; no `From` would say of what the bool is.)
     pub fn nothing_listed(spent: bool) -> Self
         ensures { reserve_of result ≡ unlisted spent }
     {

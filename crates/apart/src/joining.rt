@@ -1,4 +1,5 @@
-// Parents of a place that wait beside the store, to come in together: rows move once for all of them.
+// Parents of a place that wait beside the store, to come in together: rows move once for all of them. That no more wait than were announced
+// before (`new.old.count ≤ j`) is a fact of two values, so it is a clause of those that take both.
 ghost use Rattle.std.specs.Prelude.{◌≡◌, ◌+◌, ◌-◌, ◌≤◌, ◌<◌, length};
 ghost use Rattle.ident.specs.Words.{hash_num};
 ghost use Rattle.words.specs.Words.{words};

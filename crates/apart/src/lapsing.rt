@@ -29,7 +29,7 @@ fn lapse(
     }
 }
 
-// The owner n of the request at k, whose place is p, lapses, and its parents are announced; answers which were kept.
+// The owner n of the request at k, whose place is p, lapses, and its parents are announced; answers which were kept. `spent` is handed on.
 fn expire_place(
     s: &mut [u8],
     m: usize,

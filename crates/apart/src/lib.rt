@@ -33,10 +33,10 @@ pub fn bare_bytes(s: &[u8]) -> usize
 }
 
 // Room for a place.
-pub fn slot_room() -> [u8; 6_592]
+pub fn slot_room() -> [u8; SLOT]
     ensures { length result ≡ slot_bytes }
 {
-    [0u8; 6_592]
+    [0u8; SLOT]
 }
 
 // Sets the places apart; m are the bytes without the others.

@@ -1,18 +1,17 @@
 // Parents of a place announced one by one, and those kept noted: a bit for each in two numbers.
-ghost use Rattle.std.specs.Prelude.{◌≡◌, ◌+◌, ◌-◌, ◌≤◌, ◌<◌, length};
+ghost use Rattle.std.specs.Prelude.{◌≡◌, ◌+◌, ◌-◌, ◌≤◌, ◌<◌};
 ghost use Rattle.ident.specs.Words.{hash_num};
 ghost use Rattle.words.specs.Words.{words};
 ghost use Rattle.places.specs.Places.{list_most};
 ghost use Rattle.store.specs.Shown.{Kept};
-ghost use Rattle.apart.specs.Apart.{slot_bytes};
 ghost use Rattle.apart.specs.Noting.{parent_in, hashes_at, ParentsIn, half_most, Halved, Exhausted, Noted};
 ghost use Rattle.apart.specs.Displacing.{reserve_of, Supplies, HalfIn};
 
-use crate::displacing;
 use crate::displacing::Known;
 use crate::joining::Waiting;
 use crate::parents::Parents;
 use crate::slots::Note;
+use crate::{SLOT, displacing};
 
 // Parents of a place, and half of them.
 const MOST: usize = 100;
@@ -27,8 +26,7 @@ pub struct Announced {
 }
 
 // How many parents a place has.
-pub fn parents_in(slot: &[u8]) -> usize
-    requires { length slot.now ≡ slot_bytes }
+pub fn parents_in(slot: &[u8; SLOT]) -> usize
     ensures { ParentsIn slot.now result }
 {
     MOST.min(places::read_head(slot, 0).parents as usize)
@@ -42,8 +40,8 @@ pub fn first_half(n: usize) -> usize
 }
 
 // The j-th parent of a place.
-pub fn parent_of(slot: &[u8], j: usize) -> ident::Hash
-    requires { (j < list_most) × (length slot.now ≡ slot_bytes) }
+pub fn parent_of(slot: &[u8; SLOT], j: usize) -> ident::Hash
+    requires { j < list_most }
     ensures { hash_num result ≡ parent_in (words slot.now) j }
 {
     requests::quad_hash(places::read_parent(slot, 0, j))
@@ -73,7 +71,8 @@ fn announce_bits(
     bits
 }
 
-// Announces the parents, and notes those kept. spent: nobody can be evicted.
+// Announces the parents, and notes those kept. spent: nobody can be evicted. (It picks nothing here: it is the first of what is known of the
+// victims.)
 pub fn announce_all(s: &mut [u8], p: Parents, spent: bool) -> Announced
     requires { Kept s.old × Exhausted s.old spent }
     ensures { Noted s.old s.new p.entry.connection.number p.entry.clock (hashes_at (words p.entry.slot.now) 0 p.entry.count) result }

@@ -8,7 +8,7 @@ ghost use Rattle.gathering.specs.Deferring.{Gone};
 
 use announcing::foremost::Victims;
 
-// Whether the candidate of the row r goes if the victims up to the row v do.
+// Whether the candidate of the row r goes if the victims up to the row v do. (A test of r by v and no order: it asks whether r stays anyway.)
 fn goes(v: regions::Row, r: regions::Row) -> bool
     ensures { result ≡ goes_by v r }
 {

@@ -1,6 +1,4 @@
-// A region of rows that wait, in the order of their keys: looked up, and one put in. What only reads it has the rows as one value; where it is
-// written it is a slice beside its count: a longer one will do too, which an array would not say, and a struct over `&mut [u8]` would need a
-// clause in each contract that the reference stays.
+// A region of rows that wait, in the order of their keys: looked up, and one put in.
 ghost use Rattle.std.specs.Prelude.{◌≡◌, ◌+◌, ◌*◌, ◌≤◌, length};
 ghost use Rattle.ident.specs.Words.{hash_num};
 ghost use Rattle.words.specs.Words.{words};

@@ -1,25 +1,23 @@
 -- The first owner that is due from a place on, found among the rows of the bytes, and expired.
 use Prim.Native.Nat.{ℕ, suc, ◌+◌, ◌≤◌, ◌<◌}
 use mathlib.Core.Path.{◌≡◌, refl, sym, ap, subst, ◌∙◌}
-use mathlib.Core.Bool.{true, false}
+use mathlib.Core.Bool.{true}
 use mathlib.Core.List.{List, [], ◌∷◌, ◌++◌}
 use native.Mathlib.Omega.{arith}
 use lib.ListN.{length, get_or, drop, length-map}
 use borrow.Author.Tests.{le-leb}
 use Rattle.ident.specs.declared.Key.{Key as Given}
-use Rattle.ident.specs.Number.{top, Key, place}
+use Rattle.ident.specs.Number.{Key, place}
 use Rattle.ident.specs.Words.{key_num}
 use Rattle.regions.specs.declared.Row.{Row}
 use Rattle.regions.specs.declared.Key.{Key as RowKey}
-use Rattle.regions.specs.Order.{Bound}
 use Rattle.regions.specs.Rows.{key_number, key_of}
 use Rattle.machine.specs.State.{State}
 use Rattle.machine.specs.Plan.{Due}
 use Rattle.machine.specs.Sound.{Sound}
-use Rattle.machine.proofs.Tests.{never}
-use Rattle.store.specs.Flat.{Flat, flat_of, rows_of}
+use Rattle.store.specs.Flat.{flat_of, rows_of}
 use Rattle.store.specs.Gather.{key_at}
-use Rattle.store.specs.Image.{Shows, Writes}
+use Rattle.store.specs.Image.{Writes}
 use Rattle.store.specs.Shown.{rows_in, row_numbers, Seek, Kept}
 use Rattle.store.proofs.Counts.{distinct_in}
 use Rattle.store.proofs.Frame.{sizes}

@@ -4,26 +4,26 @@ ghost use Rattle.words.specs.Words.{words};
 ghost use Rattle.places.specs.Places.{list_most};
 ghost use Rattle.machine.specs.Limits.{max_request_checks};
 ghost use Rattle.store.specs.Shown.{half, Kept};
-ghost use Rattle.apart.specs.Apart.{slot_bytes, Room};
+ghost use Rattle.apart.specs.Apart.{Room};
 ghost use Rattle.apart.specs.Noting.{hashes_at, picked, picked_in};
 ghost use Rattle.selecting.specs.Phasing.{Roomy, Scans};
 ghost use Rattle.planning.specs.Keeping.{PlaceScans, KeptScans, KeptPhased};
 
+use apart::SLOT;
 use machine::clock::Clock;
 
 // Considers those of the parents from .. to of a place whose bits are set.
 fn consider_bits(
     s: &mut [u8],
     clock: Clock,
-    slot: &[u8],
+    slot: &[u8; SLOT],
     from: usize,
     to: usize,
     bits: u64,
     picks: &mut [usize],
     v: selecting::Scan,
 ) -> selecting::Scan
-    requires { Kept s.old × (max_request_checks < length picks.old) × Roomy v × ((from ≤ to) × (to ≤ list_most)) × (length slot.now ≡ slot_bytes)
-        × (v.considered + (to - from) ≤ half) }
+    requires { Kept s.old × (max_request_checks < length picks.old) × Roomy v × ((from ≤ to) × (to ≤ list_most)) × (v.considered + (to - from) ≤ half) }
     ensures { Scans s.old s.new picks.old picks.new clock.time (λ st. picked (hashes_at (words slot.now) from (to - from)) bits)
         (λ st. []) v result (to - from) }
 {
@@ -46,14 +46,14 @@ fn consider_bits(
 fn consider_place(
     s: &mut [u8],
     clock: Clock,
-    slot: &[u8],
+    slot: &[u8; SLOT],
     c: usize,
     low: u64,
     high: u64,
     picks: &mut [usize],
     v: selecting::Scan,
 ) -> selecting::Scan
-    requires { Kept s.old × (max_request_checks < length picks.old) × Roomy v × (c ≤ list_most) × (length slot.now ≡ slot_bytes) × (v.considered + list_most ≤ half) }
+    requires { Kept s.old × (max_request_checks < length picks.old) × Roomy v × (c ≤ list_most) × (v.considered + list_most ≤ half) }
     ensures { Scans s.old s.new picks.old picks.new clock.time (λ st. picked_in (hashes_at (words slot.now) 0 c) low high)
         (λ st. []) v result list_most }
 {

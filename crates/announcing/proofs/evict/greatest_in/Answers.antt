@@ -1,5 +1,5 @@
 use Rattle.store.proofs.Frame.{sizes}
-use mathlib.Core.Path.{refl, sym, ◌∙◌}
+use mathlib.Core.Path.{sym, ◌∙◌}
 use native.Mathlib.Omega.{arith}
 use Rattle.announcing.specs.Evicts.{found}
 use Rattle.announcing.proofs.Scanning.{over_none, over_step}

@@ -1,7 +1,4 @@
-use mathlib.Core.Path.{ap}
 use native.Mathlib.Omega.{arith}
-use lib.Dec.{leb}
-use Rattle.machine.specs.State.{limits_of}
 use Rattle.requests.proofs.Keeping.{kept_shown}
 use Rattle.announcing.proofs.keyed.crowded.Goals as goal
 

@@ -16,7 +16,7 @@ returns-then-c c = λ st s w.
     let x = candidate_of c.args.c in
     let t = st.table in
     let b = (sym (c.barred.ensures st s w) ∙ c.if-barred.false) in
-    rw c.in_place_of.ensures (replacing m k x t (at_hash k.hash) s.bounded.ordered b
+    rw c.from.ensures (replacing m k x t (at_hash k.hash) s.bounded.ordered b
     (when-crowded m k x t b (sym (c.crowded.ensures st s w) ∙ c.if-crowded.true) c.if-c.true) c.victim_at.result (c.victim_at.ensures st s w))
 
 pub returns-then-crowded : goal.returns-then-crowded
@@ -31,7 +31,7 @@ returns-then-c-2 c = λ st s w.
     let x = candidate_of c.args.c in
     let t = st.table in
     let b = (sym (c.barred.ensures st s w) ∙ c.if-barred.false) in
-    rw c.in_place_of-then-c-2.ensures (replacing m k x t anywhere s.bounded.ordered b
+    rw c.from-then-c-2.ensures (replacing m k x t anywhere s.bounded.ordered b
     (when-full m k x t b (sym (c.crowded.ensures st s w) ∙ c.if-crowded.false)
     (sym (c.full.ensures st s w) ∙ c.if-full.true) c.if-c-2.true) c.victim_anywhere.result (c.victim_anywhere.ensures st s w))
 

@@ -33,7 +33,7 @@ announce_all-requires c = let x = c.requires.0 in let
     )
 
 pub invariant_of-parents : goal.invariant_of-parents
-invariant_of-parents c = record { whole = search rules; few = few_parents c.requires.0.apart c.requires.0.held }
+invariant_of-parents c = record { few = few_parents c.requires.0.apart c.requires.0.held }
 
 pub returns : goal.returns
 returns c = λ st xs o h own. let late : c.args.clock < word = omega arith in place-expired o h c.args.n.number c.args.clock late

@@ -28,10 +28,7 @@ pub returns-then-w : goal.returns-then-w
 returns-then-w c = scans_full c.loop-j.invariant.3 (λ st. []) _ (omega (arith, c.loop-j.invariant.0)) c.if-w.true
 
 pub parent_of-h-requires : goal.parent_of-h-requires
-parent_of-h-requires c = (
-  omega (arith, c.loop-j-test.true, c.requires.3.1),
-  c.requires.4,
-)
+parent_of-h-requires c = omega (arith, c.loop-j-test.true, c.requires.3.1)
 
 pub consider-w-requires : goal.consider-w-requires
 consider-w-requires c = let x = c.loop-j.invariant.3 in (
@@ -47,7 +44,7 @@ consider-w-requires c = let x = c.loop-j.invariant.3 in (
     x.near,
     c.loop-j.invariant.0,
     c.loop-j-test.true,
-    c.requires.5,
+    c.requires.4,
   ),
 )
 

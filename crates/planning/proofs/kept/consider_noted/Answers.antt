@@ -3,7 +3,6 @@ use mathlib.Core.Path.{refl, sym, subst}
 use Rattle.store.specs.Shown.{Kept}
 use Rattle.apart.proofs.Overdue.{front_lent}
 use Rattle.planning.proofs.Keepings.{both_zero, place-clear, place-scanned}
-use borrow.Author.Rules.{rules}
 use Rattle.planning.proofs.kept.consider_noted.Goals as goal
 
 pub returns-then-low-high : goal.returns-then-low-high
@@ -15,7 +14,6 @@ consider_place-requires c = (
   c.requires.2,
   c.requires.3,
   c.parents_in-c.ensures.most,
-  search rules,
   c.requires.4,
 )
 

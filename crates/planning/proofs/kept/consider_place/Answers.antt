@@ -19,13 +19,12 @@ consider_bits-requires c = let x = c.consider_bits-x.ensures in let h = c.first_
   ),
   x.roomy,
   (h.within, c.requires.3),
-  c.requires.4,
   omega (
     arith,
     x.near,
     h.within,
     c.requires.3,
-    c.requires.5,
+    c.requires.4,
   ),
 )
 
