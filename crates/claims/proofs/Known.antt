@@ -60,11 +60,6 @@ pub room-keys : (l u : ℕ) → l ≤ max_parents → key_bytes * max_parents �
 room-keys l u few room = omega arith
 
 module _ {b : List ℕ} (k : Key) (v : ℕ) {r : Read} (x : Tells b (λ t. RequestOf (at k t) r)) where
-  pub named_positive : Kept b → {o : OwnerRead} → r.owner ≡ Some o → 1 ≤ o.connection
-  named_positive c {o} z =
-      let p = owner-peer o.connection (at k c.state.table) (lawful_at k c.state.table c.sound.bounded.lawful) (owner-named (x c.state c.sound c.writes) z) in
-      omega (arith, p.positive)
-
   pub hand_none : r.owner ≡ None → Becomes b b (λ m t. owner_parents m v (at k t).owner (at k t) t)
   hand_none z st s w =
       subst (λ (o : Option Owner). Writes b (on_table (owner_parents (limits_of st) v o (at k st.table) st.table) st)) (sym (owner-none (x st s w) z)) w

@@ -13,7 +13,8 @@ use Rattle.std.specs.Bool.{then_some}
 use Rattle.ident.specs.declared.Hash.{Hash}
 use Rattle.ident.specs.Words.{hash_num}
 use Rattle.ident.specs.declared.ItemKind.{ItemKind}
-use Rattle.ident.specs.declared.ItemKind.TheVariants.{Other}
+use Rattle.ident.specs.declared.ItemKind.TheVariants.{Transaction, WitnessTransaction, WTx, Other}
+use Rattle.ident.specs.contracts.ItemKindPartialEq.TheImpl.{eq-value}
 use Rattle.ident.specs.Number.{Key, Item}
 use Rattle.machine.specs.Limits.{Limits, msg_pkg_txns}
 use Rattle.machine.specs.State.{Table}
@@ -26,6 +27,9 @@ use Rattle.machine.proofs.Tests.{test, never}
 use Rattle.machine.proofs.Failing.{HoldsPlace, holds_claims}
 use Rattle.lent_lists.specs.Lists.{hashes_in}
 use Rattle.lent_lists.specs.Items.{items_in}
+use Rattle.std.specs.Borrow.{Bor}
+use Rattle.claims.specs.declared.waiting.Given.{Given}
+use Rattle.claims.specs.declared.waiting.Given.TheVariants.{Hashes, Items}
 use Rattle.claims.specs.Awaited.{ClaimsAre, package_named, entries_in, given_in, hash_found, last_of}
 use Rattle.claims.proofs.LastOnes.{last_given}
 
@@ -49,9 +53,9 @@ unfolding somes
 somes_hashes [] = refl
 somes_hashes (h ∷ l) = ap (λ (x : List ℕ). h ∷ x) (somes_hashes l)
 
-pub somes_given : (items : Bool) (b : List ℕ) → somes (entries_in items b) ≡ given_in items b
-somes_given true b = somes_items (items_in b)
-somes_given false b = somes_hashes (hashes_in b)
+pub somes_given : (g : Given) → somes (entries_in g) ≡ given_in g
+somes_given (Items b) = somes_items (items_in b.now)
+somes_given (Hashes b) = somes_hashes (hashes_in b.now)
 
 -- ---- the claims that they find
 
@@ -120,26 +124,29 @@ named_at f [] i d h = absurd (omega arith)
 named_at f (x ∷ l) zero d h = refl
 named_at f (x ∷ l) (suc i) d h = named_at f l i d (omega arith)
 
-pub package_other : {k : ItemKind} (x : ℕ) → k ≡ Other x → eqb x msg_pkg_txns ≡ is_type msg_pkg_txns k
-package_other x e = rw e
+-- the code compares the kind
+pub kind-type : (k : ItemKind) (n : ℕ) → eq-value.it k (Other n) ≡ is_type n k
+kind-type Transaction n = refl
+kind-type WitnessTransaction n = refl
+kind-type WTx n = refl
+kind-type (Other m) n = refl
 
-pub entries-items : (items : Bool) (b : List ℕ) → items ≡ true → length (items_in b) ≡ length (entries_in items b)
-entries-items true b e = sym (length-map (items_in b) package_named)
-entries-items false b e = never e
+pub entries-items : {g : Given} {b : Bor (List ℕ)} → g ≡ Items b → length (items_in b.now) ≡ length (entries_in g)
+entries-items {b = b} e = rw e (sym (length-map (items_in b.now) package_named))
 
-pub entries-hashes : (items : Bool) (b : List ℕ) → items ≡ false → length (hashes_in b) ≡ length (entries_in items b)
-entries-hashes true b e = never (sym e)
-entries-hashes false b e = sym (length-map (hashes_in b) some)
+pub entries-hashes : {g : Given} {b : Bor (List ℕ)} → g ≡ Hashes b → length (hashes_in b.now) ≡ length (entries_in g)
+entries-hashes {b = b} e = rw e (sym (length-map (hashes_in b.now) some))
 
 named_held : (i : Item) (h : Hash) {held : Bool} → held ≡ is_type msg_pkg_txns i.kind → hash_num h ≡ i.hash → hash_found (then_some held h) ≡ package_named i
 named_held i h e q = elim (test (is_type msg_pkg_txns i.kind)) [ inl d ↦ rw (e, d) (ap some q) | inr d ↦ rw (e, d) ]
 
-pub entry-item : (items : Bool) (b : List ℕ) (i : ℕ) (x : Item) (h : Hash) {held : Bool} {r : std.Option Hash} → items ≡ true → i < length (entries_in items b) →
-    ((d : Item) → x ≡ get_or (items_in b) i d)
-    → held ≡ is_type msg_pkg_txns x.kind → hash_num h ≡ x.hash → r ≡ then_some held h → hash_found r ≡ get_or (entries_in items b) i none
-entry-item true b i x h e l is q s t = ap hash_found t ∙ named_held x h q s ∙ ap package_named (is x) ∙ named_at package_named (items_in b) i x (omega (arith, entries-items true b refl))
-entry-item false b i x h e l is q s t = never e
+pub entry-item : {g : Given} {b : Bor (List ℕ)} (i : ℕ) (x : Item) (h : Hash) {held : Bool} {r : std.Option Hash} → g ≡ Items b → i < length (entries_in g)
+    → ((d : Item) → x ≡ get_or (items_in b.now) i d) → held ≡ is_type msg_pkg_txns x.kind → hash_num h ≡ x.hash → r ≡ then_some held h → hash_found r ≡ get_or (entries_in g) i none
+entry-item {g} {b} i x h e l is q s t =
+    let inside : i < length (items_in b.now) = omega (arith, entries-items e, l) in
+    rw e (ap hash_found t ∙ named_held x h q s ∙ ap package_named (is x) ∙ named_at package_named (items_in b.now) i x inside)
 
-pub entry-hash : (items : Bool) (b : List ℕ) (i : ℕ) {h : ℕ} → items ≡ false → i < length (entries_in items b) → h ≡ get_or (hashes_in b) i 0 → some h ≡ get_or (entries_in items b) i none
-entry-hash true b i e l q = never (sym e)
-entry-hash false b i e l q = ap some q ∙ named_at some (hashes_in b) i 0 (omega (arith, entries-hashes false b refl))
+pub entry-hash : {g : Given} {b : Bor (List ℕ)} (i : ℕ) {h : ℕ} → g ≡ Hashes b → i < length (entries_in g) → h ≡ get_or (hashes_in b.now) i 0 → some h ≡ get_or (entries_in g) i none
+entry-hash {g} {b} i e l q =
+    let inside : i < length (hashes_in b.now) = omega (arith, entries-hashes e, l) in
+    rw e (ap some q ∙ named_at some (hashes_in b.now) i 0 inside)

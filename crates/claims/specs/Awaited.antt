@@ -23,6 +23,8 @@ use Rattle.requests.specs.Changes.{Tells}
 use Rattle.package_stages.specs.Changes.{combined_of}
 use Rattle.package_stages.specs.Dead.{filter}
 use Rattle.failing.specs.Changes.{first_hashes}
+use Rattle.claims.specs.declared.waiting.Given.{Given}
+use Rattle.claims.specs.declared.waiting.Given.TheVariants.{Hashes, Items}
 
 -- ---- the claims of a connection: requests that it owns with an Awaiting package, in the order of keys
 
@@ -88,13 +90,13 @@ pub record ClaimsAre (n : ℕ) (t : Table) (hs xs : List ℕ) : Type 0 where
 abbrev pub package_named : Item → Option ℕ
 package_named i = if is_type msg_pkg_txns i.kind then some i.hash else none
 
-abbrev pub entries_in : Bool → List ℕ → List (Option ℕ)
-entries_in true b = map package_named (items_in b)
-entries_in false b = map some (hashes_in b)
+abbrev pub entries_in : Given → List (Option ℕ)
+entries_in (Items b) = map package_named (items_in b.now)
+entries_in (Hashes b) = map some (hashes_in b.now)
 
-abbrev pub given_in : Bool → List ℕ → List ℕ
-given_in true b = packages_in (items_in b)
-given_in false b = hashes_in b
+abbrev pub given_in : Given → List ℕ
+given_in (Items b) = packages_in (items_in b.now)
+given_in (Hashes b) = hashes_in b.now
 
 abbrev pub hash_found : std.Option Hash → Option ℕ
 hash_found None = none

@@ -18,7 +18,7 @@ ghost use Rattle.store.specs.Shown.{places_in, Kept};
 ghost use Rattle.requests.specs.Changes.{Tells};
 ghost use Rattle.package_stages.specs.Changes.{combined_of};
 ghost use Rattle.announcing.specs.Answers.{KeysListed};
-ghost use Rattle.claims.specs.Awaited.{awaiting, is_claim_row, Noted, ClaimsNoted, last_among, key_found, ClaimsAre, ListedOn, entries_in, given_in, hash_found, last_of, ClaimsFit};
+ghost use Rattle.claims.specs.Awaited.{awaiting, is_claim_row, Noted, ClaimsNoted, key_found, ClaimsAre, ListedOn, entries_in, given_in, hash_found, last_of, ClaimsFit};
 
 use ident::connection::Connection;
 use lent_lists::{KEY, LIST};
@@ -92,21 +92,32 @@ fn claims_of(s: &[u8], n: u64, keys: &mut [u8], sums: &mut [u8]) -> usize
     m
 }
 
-// The last claim noted with the combined hash c: of two, that at the greater key.
-fn latest(keys: &[u8], sums: &[u8], c: ident::Hash) -> Option<ident::Hash>
-    requires { length (hashes_in sums.now) ≡ length (hashes_in keys.now) }
-    ensures { key_found result ≡ last_among (hash_num c) (hashes_in keys.now) (hashes_in sums.now) }
+// The claims of a connection that are noted, in the order of keys: the hashes of their keys, and the combined hashes of their packages.
+#[derive(Clone, Copy)]
+struct Claims<'a> {
+    keys: &'a [u8],
+    sums: &'a [u8],
+    ghost paired: { length (hashes_in sums.now) ≡ length (hashes_in keys.now) },
+}
+
+// The last claim noted with the combined hash that is given, if one is: of two, that at the greater key.
+fn latest(claims: Claims, given: Option<ident::Hash>) -> Option<ident::Hash>
+    ensures { key_found result ≡ last_of (hash_found given) (hashes_in claims.entry.keys.now) (hashes_in claims.entry.sums.now) }
 {
-    for j in (0..lent_lists::hashes(keys)).rev() {
-        let x = lent_lists::hash_in(sums, j);
+    let Some(c) = given else {
+        return None;
+    };
+    for j in (0..lent_lists::hashes(claims.keys)).rev() {
+        let x = lent_lists::hash_in(claims.sums, j);
         if lent_lists::same_hash(x, c) {
-            return Some(lent_lists::hash_in(keys, j));
+            return Some(lent_lists::hash_in(claims.keys, j));
         }
     }
     None
 }
 
-// failed_with_parents at the Wtxid key with hash h, unless it has failed before; lists its keys in `out` behind c others.
+// failed_with_parents at the Wtxid key with hash h, unless it has failed before; lists its keys in `out` behind c others: c says where the next key
+// goes, since what is listed behind must not be written over.
 fn fail_claim(
     s: &mut [u8],
     n: Connection,
@@ -130,80 +141,56 @@ fn fail_claim(
     c + r
 }
 
-// The same at the key of the last claim noted with the combined hash sum, if there is one.
-fn fail_latest(
-    s: &mut [u8],
-    n: Connection,
-    sum: ident::Hash,
-    clock: u64,
-    keys: &[u8],
-    sums: &[u8],
-    out: &mut [u8],
-    c: usize,
-) -> usize
-    requires { Kept s.old × (key_bytes * c ≤ length out.old) × (length (hashes_in sums.now) ≡ length (hashes_in keys.now))
-        × ((k : Key) → last_among (hash_num sum) (hashes_in keys.now) (hashes_in sums.now) ≡ some k
-        → Tells s.old (λ t. owner_is n.number (at k t).owner ≡ true → key_bytes * (c + (max_parents + 1)) ≤ length out.old)) × (c ≤ (max_parents + 1) * max_places) }
-    ensures { ListedOn s.old s.new out.old out.new c result
-        (λ m t. fail_each m n.number clock (some_keys (last_among (hash_num sum) (hashes_in keys.now) (hashes_in sums.now) ∷ [])) t) }
-{
-    match latest(keys, sums, sum) {
-        Some(h) => fail_claim(s, n, h, clock, out, c),
-        None => c,
-    }
-}
-
-// Whether an item of this kind names a package by its combined hash.
-fn is_package(kind: ident::ItemKind) -> bool
-    ensures { result ≡ is_type msg_pkg_txns kind }
-{
-    matches!(kind, ident::ItemKind::Other(MSG_PKGTXNS))
-}
-
-// The entries of a list: items, or else hashes.
-fn entries(given: &[u8], items: bool) -> usize
-    ensures { result ≡ length (entries_in items given.now) }
-{
-    if items {
-        lent_lists::items(given)
-    } else {
-        lent_lists::hashes(given)
-    }
-}
-
-// The combined hash that an entry gives: an item gives one if it names a package.
-fn entry_at(given: &[u8], items: bool, i: usize) -> Option<ident::Hash>
-    requires { i < length (entries_in items given.now) }
-    ensures { hash_found result ≡ get_or (entries_in items given.now) i none }
-{
-    if items {
-        let item = lent_lists::item_at(given, i);
-        is_package(item.kind).then_some(item.hash)
-    } else {
-        Some(lent_lists::hash_in(given, i))
-    }
-}
-
-// fail_latest for the combined hash that an entry gives, if it gives one.
+// The same at the key of the last claim noted with the combined hash that an entry gives, if it gives one and there is such a claim.
 fn fail_entry(
     s: &mut [u8],
     n: Connection,
     given: Option<ident::Hash>,
     clock: u64,
-    keys: &[u8],
-    sums: &[u8],
+    claims: Claims,
     out: &mut [u8],
     c: usize,
 ) -> usize
-    requires { Kept s.old × (key_bytes * c ≤ length out.old) × (length (hashes_in sums.now) ≡ length (hashes_in keys.now))
-        × ((k : Key) → last_of (hash_found given) (hashes_in keys.now) (hashes_in sums.now) ≡ some k
+    requires { Kept s.old × (key_bytes * c ≤ length out.old)
+        × ((k : Key) → last_of (hash_found given) (hashes_in claims.keys.now) (hashes_in claims.sums.now) ≡ some k
         → Tells s.old (λ t. owner_is n.number (at k t).owner ≡ true → key_bytes * (c + (max_parents + 1)) ≤ length out.old)) × (c ≤ (max_parents + 1) * max_places) }
     ensures { ListedOn s.old s.new out.old out.new c result
-        (λ m t. fail_each m n.number clock (some_keys (last_of (hash_found given) (hashes_in keys.now) (hashes_in sums.now) ∷ [])) t) }
+        (λ m t. fail_each m n.number clock (some_keys (last_of (hash_found given) (hashes_in claims.entry.keys.now) (hashes_in claims.entry.sums.now) ∷ [])) t) }
+{
+    match latest(claims, given) {
+        Some(h) => fail_claim(s, n, h, clock, out, c),
+        None => c,
+    }
+}
+
+// A list that gives combined hashes: hashes, 32 bytes each, or items, 40 bytes each, of which those of type 6 give theirs.
+#[derive(Clone, Copy)]
+enum Given<'a> {
+    Hashes(&'a [u8]),
+    Items(&'a [u8]),
+}
+
+// How many entries a list has.
+fn entries(given: Given) -> usize
+    ensures { result ≡ length (entries_in given.entry) }
 {
     match given {
-        Some(sum) => fail_latest(s, n, sum, clock, keys, sums, out, c),
-        None => c,
+        Given::Hashes(bytes) => lent_lists::hashes(bytes),
+        Given::Items(bytes) => lent_lists::items(bytes),
+    }
+}
+
+// The combined hash that an entry gives, if it gives one.
+fn entry_at(given: Given, i: usize) -> Option<ident::Hash>
+    requires { i < length (entries_in given) }
+    ensures { hash_found result ≡ get_or (entries_in given.entry) i none }
+{
+    match given {
+        Given::Hashes(bytes) => Some(lent_lists::hash_in(bytes, i)),
+        Given::Items(bytes) => {
+            let item = lent_lists::item_at(bytes, i);
+            (item.kind == ident::ItemKind::Other(MSG_PKGTXNS)).then_some(item.hash)
+        }
     }
 }
 
@@ -211,42 +198,37 @@ fn fail_entry(
 fn fail_given(
     s: &mut [u8],
     n: Connection,
-    given: &[u8],
-    items: bool,
+    given: Given,
     clock: u64,
-    keys: &[u8],
-    sums: &[u8],
+    claims: Claims,
     out: &mut [u8],
 ) -> usize
-    requires { Kept s.old × ClaimsFit (length (given_in items given.now)) s.old out.old × Tells s.old (λ t. ClaimsAre n.number t (hashes_in keys.now) (hashes_in sums.now)) }
-    ensures { KeysListed s.old s.new out.old out.new result (λ m t. failed_package_claims m n.number (given_in items given.now) clock t) }
+    requires { Kept s.old × ClaimsFit (length (given_in given)) s.old out.old × Tells s.old (λ t. ClaimsAre n.number t (hashes_in claims.keys.now) (hashes_in claims.sums.now)) }
+    ensures { KeysListed s.old s.new out.old out.new result (λ m t. failed_package_claims m n.number (given_in given.entry) clock t) }
 {
-    let count = entries(given, items);
+    let count = entries(given);
     let mut c = 0;
     for i in 0..count {
-        let entry = entry_at(given, items, i);
-        c = fail_entry(s, n, entry, clock, keys, sums, out, c);
+        let entry = entry_at(given, i);
+        c = fail_entry(s, n, entry, clock, claims, out, c);
     }
     c
 }
 
-// The Awaiting claims of the connection n with one of the combined hashes given fail: items of type 6 give them, or else hashes.
-fn fail_claims(
-    s: &mut [u8],
-    n: Connection,
-    given: &[u8],
-    items: bool,
-    clock: u64,
-    out: &mut [u8],
-) -> usize
-    requires { Kept s.old × ClaimsFit (length (given_in items given.now)) s.old out.old }
-    ensures { KeysListed s.old s.new out.old out.new result (λ m t. failed_package_claims m n.number (given_in items given.now) clock t) }
+// The Awaiting claims of the connection n with one of the combined hashes given fail.
+fn fail_claims(s: &mut [u8], n: Connection, given: Given, clock: u64, out: &mut [u8]) -> usize
+    requires { Kept s.old × ClaimsFit (length (given_in given)) s.old out.old }
+    ensures { KeysListed s.old s.new out.old out.new result (λ m t. failed_package_claims m n.number (given_in given.entry) clock t) }
 {
     let mut keys = [0; LIST];
     let mut sums = [0; LIST];
     let m = claims_of(s, n.number, &mut keys, &mut sums);
     let e = m * ident::HASH_BYTES;
-    fail_given(s, n, given, items, clock, &keys[0..e], &sums[0..e], out)
+    let claims = Claims {
+        keys: &keys[0..e],
+        sums: &sums[0..e],
+    };
+    fail_given(s, n, given, clock, claims, out)
 }
 
 // The Awaiting claims of the connection n with one of the combined hashes given, 32 bytes each, fail, and the parents of each are
@@ -261,7 +243,7 @@ pub fn failed_package_claims(
     requires { Kept s.old × (key_bytes * ((max_parents + 1) * places_in s.old) ≤ length out.old) }
     ensures { KeysListed s.old s.new out.old out.new result (λ m t. failed_package_claims m n.number (hashes_in given.now) clock t) }
 {
-    fail_claims(s, n, given, false, clock, out)
+    fail_claims(s, n, Given::Hashes(given), clock, out)
 }
 
 // The same for the packages among items, 40 bytes each: those of type 6, by their hashes.
@@ -275,5 +257,5 @@ pub fn packages_not_found(
     requires { Kept s.old × Tells s.old (λ t. key_bytes * (length (packages_in (items_in items.now)) + max_parents * places_held t) ≤ length out.old) }
     ensures { KeysListed s.old s.new out.old out.new result (λ m t. failed_package_claims m n.number (packages_in (items_in items.now)) clock t) }
 {
-    fail_claims(s, n, items, true, clock, out)
+    fail_claims(s, n, Given::Items(items), clock, out)
 }

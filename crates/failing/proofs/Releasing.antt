@@ -1,13 +1,20 @@
 -- Owner and stage of a request, from what is read of it.
-use Prim.Native.Nat.{ℕ}
+use Prim.Native.Nat.{ℕ, ◌≤◌}
 use mathlib.Core.Path.{◌≡◌, refl, sym, ap, ◌∙◌}
 use mathlib.Core.Bool.{Bool, true, false}
+use mathlib.Core.List.{List}
 use mathlib.Core.Option.{Option, none, some}
 use lib.Dec.{eqb}
 use borrow.Author.Tests.{eq-eqb}
 use Rattle.std.specs.Option.{option_eq}
 use Rattle.std.specs.Prelude.{Some, None}
+use Rattle.ident.specs.Number.{Key}
 use Rattle.machine.specs.State.{Package, Request, owner_is, enqueued_in}
+use Rattle.machine.specs.Table.{at}
+use Rattle.machine.proofs.Table.{lawful_at}
+use Rattle.machine.proofs.Fail.{owner-peer}
+use Rattle.store.specs.Shown.{Kept}
+use Rattle.requests.specs.Changes.{Tells}
 use Rattle.package_stages.specs.contracts.StagePartialEq.TheImpl.{eq-value}
 use Rattle.package_stages.specs.declared.Owner.{Owner as OwnerRead}
 use Rattle.package_stages.specs.declared.Request.{Request as Read}
@@ -40,3 +47,7 @@ module _ {q : Request} {r : Read} (x : RequestOf q r) {b : Bool} where
 
   pub enqueued-is : b ≡ option_eq eq-value.it r.stage (Some Enqueued) → b ≡ enqueued_in q.«package»
   enqueued-is e = e ∙ stage-is x Enqueued ∙ stage_read q.info q.«package»
+
+-- an owner that kept bytes name is no 0
+pub named_positive : {b : List ℕ} (k : Key) {r : Read} → Tells b (λ t. RequestOf (at k t) r) → Kept b → {o : OwnerRead} → r.owner ≡ Some o → 1 ≤ o.connection
+named_positive k x c {o} z = (owner-peer o.connection (at k c.state.table) (lawful_at k c.state.table c.sound.bounded.lawful) (owner-named (x c.state c.sound c.writes) z)).positive

@@ -1,7 +1,9 @@
 // failed, unclaim, forget, failed_with_parents, release_package and package info on the bytes of a sound store (document 01, "The request machine").
+//
+// Key, connection and clock are arguments of their own, as document 01 gives them to each of these calls: the caller has them apart, and no call keeps them.
 #![tactic(auto)]
 
-ghost use Rattle.std.specs.Prelude.{◌≡◌, ◌+◌, ◌*◌, ◌≤◌, true, false, unwrap_or, length};
+ghost use Rattle.std.specs.Prelude.{◌≡◌, ◌+◌, ◌*◌, ◌≤◌, true, false, length, MatchOption};
 ghost use Rattle.ident.specs.Words.{hash_num, key_num};
 ghost use Rattle.machine.specs.Limits.{max_parents};
 ghost use Rattle.machine.specs.State.{unowned, owner_is};
@@ -129,16 +131,18 @@ pub fn forget(s: &mut [u8], k: ident::Key)
 // ---- package info
 
 // The connection that is asked for package info of the request at k, and in time at clock.
-pub fn package_info_owner(s: &[u8], k: ident::Key, clock: u64) -> Option<u64>
+pub fn package_info_owner(s: &[u8], k: ident::Key, clock: u64) -> Option<Connection>
     requires { Kept s.now }
-    ensures { Tells s.now (λ t. unwrap_or result 0 ≡ package_info_owner (key_num k) clock t) }
+    ensures { Tells s.now (λ t. MatchOption result (package_info_owner (key_num k) clock t ≡ 0) (λ n. n.number ≡ package_info_owner (key_num k) clock t)) }
 {
     let r = package_stages::request_at(s, k);
     if r.stage != Some(Stage::Flagged) {
         return None;
     }
     match r.owner {
-        Some(owner) if clock < owner.deadline => Some(owner.connection),
+        Some(owner) if clock < owner.deadline => Some(Connection {
+            number: owner.connection,
+        }),
         _ => None,
     }
 }

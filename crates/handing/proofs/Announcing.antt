@@ -1,14 +1,14 @@
 -- Parents announced for each of some connections, their keys put in order as they come.
-use Prim.Native.Nat.{ℕ, zero, suc, ◌+◌, ◌*◌, ◌≤◌, ◌<◌}
+use Prim.Native.Nat.{ℕ, zero, suc, ◌+◌, ◌*◌, ◌/◌, ◌≤◌, ◌<◌}
 use mathlib.Core.Path.{◌≡◌, refl, sym, ap, subst, ◌∙◌}
 use mathlib.Core.List.{List, [], ◌∷◌, ◌++◌, append_assoc, append-nil}
 use native.Mathlib.Numerals.{add-one}
 use native.Mathlib.Omega.{arith}
 use lib.ListN.{length, take, drop, get_or, take-append-drop}
-use lib.Seq.{take-suc, take_all, length-take-le, get_or-take}
+use lib.Seq.{take-suc, take_all, length-take-le}
 use Rattle.ident.specs.Number.{Key}
-use Rattle.words.specs.Words.{words}
-use Rattle.words.proofs.Words.{length-words}
+use Rattle.words.specs.Words.{number, words}
+use Rattle.words.proofs.Records.{recs-take, take-recs}
 use Rattle.machine.specs.Limits.{Limits, word}
 use Rattle.machine.specs.State.{State, Table, limits_of, on_table}
 use Rattle.machine.specs.Fail.{announce_parents}
@@ -179,10 +179,10 @@ module _ {now : ℕ} {hs ns b₀ b u₀ u : List ℕ} {n r i : ℕ} (late : now 
       };
     }
 
--- ---- the connections, as the code reads them
+-- ---- the connections, as they are lent
 
-pub length-conns : (q : ℕ) (b : List ℕ) → 8 * q ≤ length b → length (conns_in q b) ≡ q
-length-conns q b h = length-take-le q (words b) (omega (arith, length-words b))
-
-pub conn_in : (q : ℕ) (b : List ℕ) (i : ℕ) {x : ℕ} → i < q → x ≡ get_or (words b) i 0 → x ≡ get_or (conns_in q b) i 0
-conn_in q b i h e = e ∙ sym (get_or-take q (words b) i 0 h)
+pub conns-lent : (q : ℕ) (b : List ℕ) {ns : List ℕ} → 8 * q ≤ length b → conns_in q b ≡ ns → words (take (8 * q) b) ≡ ns
+unfolding words
+conns-lent q b h e =
+    let n : length (take (8 * q) b) / 8 ≡ q = omega (arith, length-take-le (8 * q) b h) in
+    rw n (recs-take 8 (number 256) q b h) ∙ sym (take-recs 8 (number 256) q (length b / 8) b (omega arith)) ∙ e

@@ -1,9 +1,12 @@
 // The connection that leaves owns a request: it fails there (an Enqueued package stays), and the parents are announced for every
 // candidate that is left.
+//
+// Key, connection and clock are arguments of their own, as document 01 gives them to each of these steps: the caller has them apart, and no step keeps them.
 #![tactic(auto)]
 
 ghost use Rattle.std.specs.Prelude.{◌≡◌, ◌*◌, ◌≤◌, true, false, is_some, [], length};
 ghost use Rattle.ident.specs.Words.{key_num};
+ghost use Rattle.words.specs.Words.{words};
 ghost use Rattle.regions.specs.Rows.{key_number, key_of as row_key_of};
 ghost use Rattle.machine.specs.Limits.{max_alternates, max_parents};
 ghost use Rattle.machine.specs.State.{owner_is};
@@ -62,22 +65,21 @@ fn announce_for(
     merging::merge(u, n, &keys, c)
 }
 
-// The same for each of the first q connections.
+// The same for each of the connections that `conns` lists, a word each.
 fn announce_each(
     s: &mut [u8],
     clock: u64,
     list: &[u8],
     conns: &[u8],
-    q: usize,
     u: &mut [u8],
     n: usize,
 ) -> usize
-    requires { Kept s.old × (length (hashes_in list.now) ≤ max_parents) × (8 * q ≤ length conns.now) × Peers (conns_in q conns.now) × InOrder u.old n
-        × Roomy s.old u.old n (λ m t. announce_for m clock (hashes_in list.now) (conns_in q conns.now) t) }
-    ensures { KeysMerged s.old s.new u.old u.new n result (λ m t. announce_for m clock (hashes_in list.now) (conns_in q conns.now) t) }
+    requires { Kept s.old × (length (hashes_in list.now) ≤ max_parents) × Peers (words conns.now) × InOrder u.old n
+        × Roomy s.old u.old n (λ m t. announce_for m clock (hashes_in list.now) (words conns.now) t) }
+    ensures { KeysMerged s.old s.new u.old u.new n result (λ m t. announce_for m clock (hashes_in list.now) (words conns.now) t) }
 {
     let mut r = n;
-    for i in 0..q {
+    for i in 0..conns.len() / 8 {
         let number = words::get(conns, i);
         r = announce_for(s, Connection { number }, clock, list, u, r);
     }
@@ -102,12 +104,12 @@ pub fn drop_owned(
     failing::failed(s, k, n.number, clock);
     let mut conns = [0u8; CONNS];
     let q = copy_conns(s, k, &mut conns);
-    announce_each(s, clock, parents, &conns, q, u, c)
+    announce_each(s, clock, parents, &conns[..8 * q], u, c)
 }
 
 // ---- a key that waits to be cut with others
 
-// Whether a connection owns a request, and the row from which to look for its next one.
+// Whether a connection owns a request, and the row from which to look for its next one, which serves in either case.
 #[derive(Clone, Copy)]
 struct Seen {
     owner: bool,

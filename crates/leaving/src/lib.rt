@@ -1,5 +1,8 @@
 // A connection leaves (document 01, "disconnected"). Its keys wait to be cut together (crate cutting), up to one that it owns and whose
 // parents are announced (crate handing): cuts may move neither before nor behind that, since it needs room.
+//
+// The keys of the connection and those of the parents stand in one buffer, the answer that document 01 asks for, with the number of its own keys beside it: cut in
+// two at its own keys, each turn would have to say that both parts are the buffer that was lent. Other numbers beside it are indices of keys.
 #![tactic(auto)]
 
 ghost use Rattle.std.specs.Prelude.{◌≡◌, ℕ, min, ◌+◌, ◌*◌, ◌≤◌, ◌<◌, List, length};

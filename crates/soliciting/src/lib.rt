@@ -1,4 +1,5 @@
-// The package calls on the bytes of a sound store (document 01, "claim_package", "begin_package_resolution").
+// The package calls on the bytes of a sound store (document 01, "claim_package", "begin_package_resolution"). Their arguments stay apart, as the calls have them: a
+// struct would be made for one call and taken apart in it.
 #![tactic(auto)]
 
 ghost use Rattle.std.specs.Prelude.{◌≡◌, ◌<◌, ◌&&◌, eqb, Some};

@@ -36,7 +36,7 @@ pub an_offer : Offer
 an_offer = record { item = record { kind = WTx; hash = 0 }; priority = 0 }
 
 abbrev pub made : Terms → List Offer → ℕ → Candidate
-made a os j = offered a.connection a.clock a.preferred a.source a.late (get_or os j an_offer)
+made a os j = offered a.connection.number a.clock.time a.preferred a.source a.late (get_or os j an_offer)
 
 -- ---- collecting
 
@@ -51,7 +51,7 @@ collects_start a os {i} e l = record {
     aside = record { ready = tt; idle = tt; count = refl; rows = e };
     room = omega (arith, (sized_of st s).rows_few, held-rows st.table);
     table = ap (λ (l : List Offer). announced a l (limits_of st) st.table) (between_none i os)
-        ∙ offers_none (limits_of st) a.connection a.clock a.preferred a.source a.late st.table;
+        ∙ offers_none (limits_of st) a.connection.number a.clock.time a.preferred a.source a.late st.table;
   };
 }
 
@@ -96,12 +96,12 @@ module _ {b w : List ℕ} {a : Terms} {os : List Offer} {i j d : ℕ} (x : Colle
 -- ---- coming in
 
 module _ {b w : List ℕ} {a : Terms} {os : List Offer} {i j d : ℕ} (x : Collects b w a os i j d) where
-  pub collects_gathers : Kept b → Gathers b a.connection w d
+  pub collects_gathers : Kept b → Gathers b a.connection.number w d
   collects_gathers k =
       let z = x.collected k.state k.sound k.writes in
       record { state = k.state; sound = k.sound; writes = k.writes; entries = z.entries; aside = z.aside; room = z.room }
 
-  pub collects_in : {b₁ : List ℕ} → ComeIn b b₁ a.connection w d → Becomes b b₁ (announced a (between i j os))
+  pub collects_in : {b₁ : List ℕ} → ComeIn b b₁ a.connection.number w d → Becomes b b₁ (announced a (between i j os))
   collects_in {b₁} h st s g =
       let z = x.collected st s g in
       subst (λ (t : Table). Writes b₁ (on_table t st)) (sym z.table) (h st s g z.entries z.aside)
@@ -118,15 +118,19 @@ one_announced {b} {b₁} a os i l q h st s g =
 abbrev after : Terms → List Offer → ℕ → ℕ → State → State
 after a os i j st = on_table (announced a (between i j os) (limits_of st) st.table) st
 
-after-sound : (a : Terms) (os : List Offer) (i j : ℕ) → Peer a.connection → a.clock + request_lifetime < word → Each OfferTyped os → (st : State) → Sound st → Sound (after a os i j st)
-after-sound a os i j peer late typed st s =
-    sound-table s (bounded-offers a.connection a.clock a.preferred a.source a.late (between i j os) peer late (each_between i j os typed) s.bounded)
+-- a deadline fits in a word
+pub in-time : (a : Terms) → a.clock.time + request_lifetime < word
+in-time a = omega (arith, a.clock.early)
 
-module _ {b b₁ : List ℕ} (a : Terms) (os : List Offer) (i j : ℕ) (h : Becomes b b₁ (announced a (between i j os))) (peer : Peer a.connection) (late : a.clock + request_lifetime < word)
+after-sound : (a : Terms) (os : List Offer) (i j : ℕ) → Peer a.connection.number → Each OfferTyped os → (st : State) → Sound st → Sound (after a os i j st)
+after-sound a os i j peer typed st s =
+    sound-table s (bounded-offers a.connection.number a.clock.time a.preferred a.source a.late (between i j os) peer (in-time a) (each_between i j os typed) s.bounded)
+
+module _ {b b₁ : List ℕ} (a : Terms) (os : List Offer) (i j : ℕ) (h : Becomes b b₁ (announced a (between i j os))) (peer : Peer a.connection.number)
     (typed : Each OfferTyped os) where
   pub part_kept : Kept b → Kept b₁
-  part_kept k = record { state = after a os i j k.state; sound = after-sound a os i j peer late typed k.state k.sound; writes = h k.state k.sound k.writes }
+  part_kept k = record { state = after a os i j k.state; sound = after-sound a os i j peer typed k.state k.sound; writes = h k.state k.sound k.writes }
 
   pub part_join : {b₂ : List ℕ} (k : ℕ) → i ≤ j → j ≤ k → Becomes b₁ b₂ (announced a (between j k os)) → Becomes b b₂ (announced a (between i k os))
   part_join {b₂} k p q g st s w =
-      subst (λ (t : Table). Writes b₂ (on_table t st)) (announced-join a (limits_of st) os st.table i j k p q) (g (after a os i j st) (after-sound a os i j peer late typed st s) (h st s w))
+      subst (λ (t : Table). Writes b₂ (on_table t st)) (announced-join a (limits_of st) os st.table i j k p q) (g (after a os i j st) (after-sound a os i j peer typed st s) (h st s w))

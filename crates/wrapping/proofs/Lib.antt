@@ -1,4 +1,3 @@
-pub mod ItemKeys
 pub mod Completing
 pub mod Parts
 pub mod Gathered

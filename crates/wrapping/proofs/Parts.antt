@@ -66,8 +66,8 @@ module _ (a : Terms) (m : Limits) (os : List Offer) (t : Table) where
 
   pub announced-join : (i j k : ℕ) → i ≤ j → j ≤ k → From (between j k os) (From (between i j os) t) ≡ From (between i k os) t
   announced-join i j k p q =
-      sym (offers-append m a.connection a.clock a.preferred a.source a.late (between i j os) (between j k os) t) ∙ ap (λ (l : List Offer). From l t) (between_join i j k os p q)
+      sym (offers-append m a.connection.number a.clock.time a.preferred a.source a.late (between i j os) (between j k os) t) ∙ ap (λ (l : List Offer). From l t) (between_join i j k os p q)
 
   pub announced_one : (i : ℕ) (o : Offer) → i < length os
-      → From (between i (i + 1) os) t ≡ (announce m (offered a.connection a.clock a.preferred a.source a.late (get_or os i o)) t).table
-  announced_one i o h = ap (λ (l : List Offer). From l t) (between_one i os o h) ∙ offers_one m a.connection a.clock a.preferred a.source a.late (get_or os i o) t
+      → From (between i (i + 1) os) t ≡ (announce m (offered a.connection.number a.clock.time a.preferred a.source a.late (get_or os i o)) t).table
+  announced_one i o h = ap (λ (l : List Offer). From l t) (between_one i os o h) ∙ offers_one m a.connection.number a.clock.time a.preferred a.source a.late (get_or os i o) t

@@ -58,7 +58,7 @@ swaps_start a os {i} e x h l = record {
       apart = tt;
     };
     same = ap (λ (l : List Offer). announced a l (limits_of st) st.table) (between_none i os)
-        ∙ offers_none (limits_of st) a.connection a.clock a.preferred a.source a.late st.table;
+        ∙ offers_none (limits_of st) a.connection.number a.clock.time a.preferred a.source a.late st.table;
   };
 }
 
@@ -67,7 +67,7 @@ announced-nobody : (a : Terms) (os : List Offer) (m : Limits) (t : Table) → a.
 unfolding offers_from
 announced-nobody a [] m t p l e = refl
 announced-nobody a (o ∷ os) m t p l e =
-    let c = offered a.connection a.clock a.preferred a.source a.late o in
+    let c = offered a.connection.number a.clock.time a.preferred a.source a.late o in
     ap (λ (u : Table). announced a os m u) (nobody-keyed m c t p l e (key_of c.item)) ∙ announced-nobody a os m t p l e
 
 module _ {b w v : List ℕ} {m : ℕ} {a : Terms} {os : List Offer} {i j d : ℕ} (x : Swaps b w v m a os i j d) where
@@ -110,7 +110,7 @@ module _ {b w v : List ℕ} {m : ℕ} {a : Terms} {os : List Offer} {i j d : ℕ
   -- ---- the victims go, and those that wait come in
 
   module _ {b₁ : List ℕ} (gone : Gone b b₁ v m d) where
-    pub swaps_gathers : Kept b → Gathers b₁ a.connection w d
+    pub swaps_gathers : Kept b → Gathers b₁ a.connection.number w d
     swaps_gathers k =
         let z = (x.standing k.state k.sound k.writes).owing in
         record {
@@ -122,18 +122,18 @@ module _ {b w v : List ℕ} {m : ℕ} {a : Terms} {os : List Offer} {i j d : ℕ
           room = omega (arith, left_held z);
         }
 
-    module _ {b₂ : List ℕ} (h : ComeIn b₁ b₂ a.connection w d) where
-      came : (st : State) → Sound st → (g : Writes b st) → (z : Owing b w v a.connection d m st) → Writes b₂ (on_table (pushes z.entries (left_by z)) st)
+    module _ {b₂ : List ℕ} (h : ComeIn b₁ b₂ a.connection.number w d) where
+      came : (st : State) → Sound st → (g : Writes b st) → (z : Owing b w v a.connection.number d m st) → Writes b₂ (on_table (pushes z.entries (left_by z)) st)
       came st s g z = h (on_table (left_by z) st) (left_sound z) (gone st s g z.listed) z.entries (left_aside z)
 
       -- if nobody else can be evicted, the others change nothing
-      alone : (st : State) → (z : Owing b w v a.connection d m st) → length (fallen [] (rows_of st.table)) ≡ m → d ≡ m → a.preferred ≡ true → (l : List Offer)
+      alone : (st : State) → (z : Owing b w v a.connection.number d m st) → length (fallen [] (rows_of st.table)) ≡ m → d ≡ m → a.preferred ≡ true → (l : List Offer)
           → announced a l (limits_of st) (pushes z.entries (left_by z)) ≡ pushes z.entries (left_by z)
       alone st z n e p l =
           let u = left_by z in
           let none : victims anywhere u ≡ [] = nobody-listed (on_table u st) (left_sound z) (omega (arith, left_fallen z)) in
           announced-nobody a l (limits_of st) (pushes z.entries u) p
-          (omega (arith, left_held z, z.aside.count, held_beside a.connection z.entries u z.aside.ready (left_sound z).bounded.ordered))
+          (omega (arith, left_held z, z.aside.count, held_beside a.connection.number z.entries u z.aside.ready (left_sound z).bounded.ordered))
           (victims-pushes z.entries u z.preferred ∙ none)
 
       pub swaps_settled : Settled b b₂ m a os i j d
@@ -174,9 +174,9 @@ went_all {b} {b₁} {m} {most} {a} {os} {i} {j} {d} {k} x n h p e =
     (x.others (n (ltb-true m most (and_right (eqb d m) (ltb m most) h))) (eqb-true d m (and_left (eqb d m) (ltb m most) h)) p)
 
 module _ {b b₁ : List ℕ} {a : Terms} {os : List Offer} {i j : ℕ} (x : Went b b₁ a os i j) where
-  module _ (peer : Peer a.connection) (late : a.clock + request_lifetime < word) (typed : Each OfferTyped os) where
+  module _ (peer : Peer a.connection.number) (typed : Each OfferTyped os) where
     pub went_kept : Kept b → Kept b₁
-    went_kept k = part_kept a os i j x.table peer late typed k
+    went_kept k = part_kept a os i j x.table peer typed k
 
     pub went_then : {b₂ : List ℕ} {k : ℕ} → j ≤ i → Announced b₁ b₂ a os i k → Announced b b₂ a os i k
     went_then {b₂} {k} h y =
@@ -184,5 +184,5 @@ module _ {b b₁ : List ℕ} {a : Terms} {os : List Offer} {i j : ℕ} (x : Went
         record {
           more = y.more;
           inside = y.inside;
-          table = part_join a os i j x.table peer late typed k x.from (omega (arith, y.more)) (subst (λ (p : ℕ). Becomes b₁ b₂ (announced a (between p k os))) e y.table);
+          table = part_join a os i j x.table peer typed k x.from (omega (arith, y.more)) (subst (λ (p : ℕ). Becomes b₁ b₂ (announced a (between p k os))) e y.table);
         }

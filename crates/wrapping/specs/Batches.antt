@@ -21,12 +21,12 @@ between i j os = take (j - i) (drop i os)
 
 -- what the machine makes of offers on these terms
 abbrev pub announced : Terms → List Offer → Limits → Table → Table
-announced a os m t = offers_from m a.connection a.clock a.preferred a.source a.late os t
+announced a os m t = offers_from m a.connection.number a.clock.time a.preferred a.source a.late os t
 
 -- of the offers os d wait beside the table t, with rows in the words w: they come to the same as the offers
 pub record Collected (m : Limits) (a : Terms) (os : List Offer) (t : Table) (w : List ℕ) (d : ℕ) : Type 0 where
   pub entries : List Entry
-  pub aside : Aside a.connection t entries w d
+  pub aside : Aside a.connection.number t entries w d
   pub room : held t + d ≤ m.announcements
   pub table : announced a os m t ≡ pushes entries t
 
@@ -45,4 +45,4 @@ pub record Announced (b b' : List ℕ) (a : Terms) (os : List Offer) (i j : ℕ)
 
 -- c is the candidate that the i-th offer makes
 abbrev pub Offers : Terms → List Offer → ℕ → Candidate → Type 0
-Offers a os i c = (d : Offer) → c ≡ offered a.connection a.clock a.preferred a.source a.late (get_or os i d)
+Offers a os i c = (d : Offer) → c ≡ offered a.connection.number a.clock.time a.preferred a.source a.late (get_or os i d)

@@ -19,7 +19,7 @@ Whole b = (st : State) → Sound st → Writes b st → held st.table ≡ st.lim
 
 -- what stands once the offers os were announced from the state st on: d of them wait, and as many victims are to go
 pub record Standing (b w v : List ℕ) (m d : ℕ) (a : Terms) (os : List Offer) (st : State) : Type 0 where
-  pub owing : Owing b w v a.connection d m st
+  pub owing : Owing b w v a.connection.number d m st
   pub same : announced a os (limits_of st) st.table ≡ pushes owing.entries (left_by owing)
 
 -- the offers from the i-th on and before the j-th, whatever sound state the bytes b write

@@ -51,28 +51,13 @@ fn not_found_one(
     requires { Kept s.old × Roomy s.old out.old }
     ensures { KeysListed s.old s.new out.old out.new result (λ m t. machine.not_found_one m n.number clock (item_num item) t) }
 {
-    let h = item.hash;
-    match item.kind {
-        ident::ItemKind::Transaction => {
-            fail_listed(s, ident::Key::from(ident::Txid(h)), n.number, clock, out)
-        }
-        ident::ItemKind::WitnessTransaction => {
-            fail_listed(s, ident::Key::from(ident::Txid(h)), n.number, clock, out)
-        }
-        ident::ItemKind::WTx => fail_listed(
-            s,
-            ident::Key::from(ident::Wtxid(h)),
-            n.number,
-            clock,
-            out,
-        ),
-        ident::ItemKind::Other(t) => {
-            if t == MSG_ANCPKGINFO {
-                fail_info(s, ident::Key::from(ident::Wtxid(h)), n, clock, out)
-            } else {
-                0
-            }
-        }
+    if item.kind == ident::ItemKind::Other(MSG_ANCPKGINFO) {
+        let k = ident::Key::from(ident::Wtxid(item.hash));
+        return fail_info(s, k, n, clock, out);
+    }
+    match ident::key_of(item) {
+        Some(k) => fail_listed(s, k, n.number, clock, out),
+        None => 0,
     }
 }
 

@@ -3,7 +3,7 @@ ghost use Rattle.std.specs.Prelude.{◌≡◌, true, ◌+◌, ◌*◌, ◌≤◌
 ghost use Rattle.ident.specs.Words.{item_num};
 ghost use Rattle.words.specs.Words.{words};
 ghost use Rattle.regions.specs.Rows.{row_size};
-ghost use Rattle.machine.specs.Limits.{max_in_flight, source_delay, request_lifetime, word};
+ghost use Rattle.machine.specs.Limits.{max_in_flight, source_delay};
 ghost use Rattle.machine.specs.Table as table;
 ghost use Rattle.machine.specs.Wrapper as machine;
 ghost use Rattle.store.specs.Shown.{Kept};
@@ -22,73 +22,28 @@ use ident::connection::Connection;
 use machine::clock::Clock;
 use machine::limits::{MAX_PEER_IN_FLIGHT, SOURCE_DELAY};
 
-fn is_wtx(k: ident::ItemKind) -> bool
-    ensures { result ≡ machine.is_w_tx k }
-{
-    matches!(k, ident::ItemKind::WTx)
-}
-
-// How long an item waits: a delay for each of three grounds. source: a wtxid source exists.
-fn delay(preferred: bool, source: bool, overloaded: bool, item: ident::Item) -> u64
-    ensures { (result ≡ machine.delay preferred source overloaded (item_num item)) × (result ≤ 3 * source_delay) }
-{
-    let w = is_wtx(item.kind);
-    let n = u64::from(!preferred) + u64::from(source & !w) + u64::from(overloaded);
-    SOURCE_DELAY * n
-}
-
-// The candidate that an announced item makes.
-fn offered(
-    n: u64,
-    clock: u64,
-    preferred: bool,
-    source: bool,
-    overloaded: bool,
-    item: ident::Item,
-    priority: u64,
-) -> requests::Candidate
-    requires { clock + request_lifetime < word }
-    ensures { candidate_of result ≡ machine.offered n clock preferred source overloaded (record { item = item_num item; priority = priority }) }
-{
-    let ready = clock + delay(preferred, source, overloaded, item);
-    requests::Candidate {
-        connection: n,
-        item,
-        ready,
-        preferred,
-        priority,
-    }
-}
-
-// The connection n owns as many requests as it may.
-fn overloaded(s: &[u8], n: u64) -> bool
-    requires { Kept s.now }
-    ensures { Tells s.now (λ t. result ≡ leb max_in_flight (table.owned_by n t)) }
-{
-    let f = requests::figures(s, n);
-    f.owned >= MAX_PEER_IN_FLIGHT
-}
-
-// What holds of every item of a batch. source: a wtxid source exists; late: the connection owned as many requests as it may before.
+// What holds of every item of a batch. source: a wtxid source exists; late: the connection owned as many requests as it may before. (Each of
+// the bools is a ground for a delay, and none says whether another field holds.)
 #[derive(Clone, Copy)]
 struct Terms {
-    connection: u64,
-    clock: u64,
+    connection: Connection,
+    clock: Clock,
     preferred: bool,
     source: bool,
     late: bool,
 }
 
-// The items that are announced, and the priorities that the host drew for them: the shorter list decides how many offers these are. (A slice
-// in a struct does not say by itself that bytes are bytes.)
+// Items that are announced on the same terms, and the priorities that the host drew for them: the shorter list decides how many offers these
+// are. (A slice in a struct does not say by itself that bytes are bytes.)
 #[derive(Clone, Copy)]
-struct Inventory<'a> {
+struct Batch<'a> {
+    terms: Terms,
     items: &'a [u8],
     priorities: &'a [u8],
     ghost bytes: { Bytes items.now × Bytes priorities.now },
 }
 
-impl<'a> Inventory<'a> {
+impl<'a> Batch<'a> {
     fn count(self) -> usize
         ensures { result ≡ length (offers_in self.entry.items.now self.entry.priorities.now) }
     {
@@ -96,30 +51,54 @@ impl<'a> Inventory<'a> {
     }
 }
 
-// The candidate that the i-th item makes.
-fn offered_at(a: Terms, o: Inventory, i: usize) -> requests::Candidate
-    requires { (a.clock + request_lifetime < word) × (i < length (offers_in o.items.now o.priorities.now)) }
-    ensures { Offers a (offers_in o.entry.items.now o.entry.priorities.now) i (candidate_of result) }
+// How long an item waits: a delay for each of three grounds.
+fn delay(a: Terms, item: ident::Item) -> u64
+    ensures { (result ≡ machine.delay a.preferred a.source a.late (item_num item)) × (result ≤ 3 * source_delay) }
 {
-    let item = lent_lists::item_at(o.items, i);
-    let priority = words::get(o.priorities, i);
-    offered(
-        a.connection,
-        a.clock,
-        a.preferred,
-        a.source,
-        a.late,
+    let w = item.kind == ident::ItemKind::WTx;
+    let n = u64::from(!a.preferred) + u64::from(a.source & !w) + u64::from(a.late);
+    SOURCE_DELAY * n
+}
+
+// The candidate that an announced item makes.
+fn offered(a: Terms, item: ident::Item, priority: u64) -> requests::Candidate
+    ensures { candidate_of result ≡ machine.offered a.connection.number a.clock.time a.preferred a.source a.late (record { item = item_num item; priority = priority }) }
+{
+    let ready = a.clock.time + delay(a, item);
+    requests::Candidate {
+        connection: a.connection.number,
         item,
+        ready,
+        preferred: a.preferred,
         priority,
-    )
+    }
+}
+
+// The connection n owns as many requests as it may.
+fn overloaded(s: &[u8], n: Connection) -> bool
+    requires { Kept s.now }
+    ensures { Tells s.now (λ t. result ≡ leb max_in_flight (table.owned_by n.number t)) }
+{
+    let f = requests::figures(s, n.number);
+    f.owned >= MAX_PEER_IN_FLIGHT
+}
+
+// The candidate that the i-th item makes.
+fn offered_at(b: Batch, i: usize) -> requests::Candidate
+    requires { i < length (offers_in b.items.now b.priorities.now) }
+    ensures { Offers b.entry.terms (offers_in b.entry.items.now b.entry.priorities.now) i (candidate_of result) }
+{
+    let item = lent_lists::item_at(b.items, i);
+    let priority = words::get(b.priorities, i);
+    offered(b.terms, item, priority)
 }
 
 // Announces the i-th item by itself.
-fn announce_one(s: &mut [u8], a: Terms, o: Inventory, i: usize)
-    requires { Kept s.old × (a.clock + request_lifetime < word) × (i < length (offers_in o.items.now o.priorities.now)) }
-    ensures { Becomes s.old s.new (announced a (between i (i + 1) (offers_in o.entry.items.now o.entry.priorities.now))) }
+fn announce_one(s: &mut [u8], b: Batch, i: usize)
+    requires { Kept s.old × (i < length (offers_in b.items.now b.priorities.now)) }
+    ensures { Becomes s.old s.new (announced b.entry.terms (between i (i + 1) (offers_in b.entry.items.now b.entry.priorities.now))) }
 {
-    let c = offered_at(a, o, i);
+    let c = offered_at(b, i);
     announcing::announce(s, c);
 }
 
@@ -131,15 +110,14 @@ struct Part {
 }
 
 // Collects in `new`, which is empty, the rows of the items from the first on that can come in together.
-fn collect(s: &[u8], new: &mut [u8], a: Terms, o: Inventory, first: usize) -> Part
-    requires { Kept s.now × (8 * (row_size * space) ≤ length new.old) × Empty (words new.old) × (a.clock + request_lifetime < word)
-        × (first ≤ length (offers_in o.items.now o.priorities.now)) }
-    ensures { Collects s.now (words new.new) a (offers_in o.entry.items.now o.entry.priorities.now) first result.next result.waiting }
+fn collect(s: &[u8], new: &mut [u8], b: Batch, first: usize) -> Part
+    requires { Kept s.now × (8 * (row_size * space) ≤ length new.old) × Empty (words new.old) × (first ≤ length (offers_in b.items.now b.priorities.now)) }
+    ensures { Collects s.now (words new.new) b.entry.terms (offers_in b.entry.items.now b.entry.priorities.now) first result.next result.waiting }
 {
-    let count = o.count();
+    let count = b.count();
     let mut m = 0;
     for i in first..count {
-        let c = offered_at(a, o, i);
+        let c = offered_at(b, i);
         match gathering::beside::set_aside(s, new, m, c) {
             Fare::Nothing => {}
             Fare::Waits => m += 1,
@@ -166,26 +144,26 @@ const FEW: usize = 4;
 
 // Announces some items from the first on: those together that nothing gives way to and that find room beside the store, and the next
 // one, if there is one, by itself. Answers which comes next.
-fn announce_some(s: &mut [u8], a: Terms, o: Inventory, first: usize) -> usize
-    requires { Kept s.old × (1 ≤ a.connection) × (a.clock + request_lifetime < word) × (first < length (offers_in o.items.now o.priorities.now)) }
-    ensures { Announced s.old s.new a (offers_in o.entry.items.now o.entry.priorities.now) first result }
+fn announce_some(s: &mut [u8], b: Batch, first: usize) -> usize
+    requires { Kept s.old × (first < length (offers_in b.items.now b.priorities.now)) }
+    ensures { Announced s.old s.new b.entry.terms (offers_in b.entry.items.now b.entry.priorities.now) first result }
 {
-    let count = o.count();
+    let count = b.count();
     if count - first < FEW {
-        announce_one(s, a, o, first);
+        announce_one(s, b, first);
         return first + 1;
     }
     let mut new = region();
     gathering::region::clear(&mut new);
-    let p = collect(s, &mut new, a, o, first);
+    let p = collect(s, &mut new, b, first);
     let rows = Rows {
         bytes: &new,
         count: p.waiting,
     };
-    gathering::coming::come_in(s, a.connection, rows);
+    gathering::coming::come_in(s, b.terms.connection.number, rows);
     let next = p.next;
     if next < count {
-        announce_one(s, a, o, next);
+        announce_one(s, b, next);
         return next + 1;
     }
     next
@@ -203,18 +181,18 @@ fn full(s: &[u8]) -> bool
 
 // Whether it is worth while to list victims for the items from the first on: they are preferred, L is held, and the first of them does not
 // have to take the place of another at its hash.
-fn displaces(s: &[u8], a: Terms, o: Inventory, first: usize) -> bool
-    requires { Kept s.now × (first < length (offers_in o.items.now o.priorities.now)) }
-    ensures { result ≡ true → Whole s.now × (a.preferred ≡ true) }
+fn displaces(s: &[u8], b: Batch, first: usize) -> bool
+    requires { Kept s.now × (first < length (offers_in b.items.now b.priorities.now)) }
+    ensures { result ≡ true → Whole s.now × (b.entry.terms.preferred ≡ true) }
 {
-    let count = o.count();
+    let count = b.count();
     if count - first < FEW {
         return false;
     }
-    if !a.preferred {
+    if !b.terms.preferred {
         return false;
     }
-    let item = lent_lists::item_at(o.items, first);
+    let item = lent_lists::item_at(b.items, first);
     let h = item.hash;
     if announcing::keyed::crowded(s, h) {
         return false;
@@ -234,15 +212,15 @@ fn at_most(n: usize) -> usize
 
 // Announces items from the first on, with the store left as it is: each that comes in waits in `new`, which is empty, and the next of the
 // victims listed in `top` is to go.
-fn swap(s: &[u8], new: &mut [u8], top: &Victims, a: Terms, o: Inventory, first: usize) -> Part
+fn swap(s: &[u8], new: &mut [u8], top: &Victims, b: Batch, first: usize) -> Part
     requires { Kept s.now × Whole s.now × VictimsIn s.now (words top.now.rows) top.now.count
-        × (8 * (row_size * space) ≤ length new.old) × Empty (words new.old) × (a.clock + request_lifetime < word) × (first ≤ length (offers_in o.items.now o.priorities.now)) }
-    ensures { Swaps s.now (words new.new) (words top.now.rows) top.now.count a (offers_in o.entry.items.now o.entry.priorities.now) first result.next result.waiting }
+        × (8 * (row_size * space) ≤ length new.old) × Empty (words new.old) × (first ≤ length (offers_in b.items.now b.priorities.now)) }
+    ensures { Swaps s.now (words new.new) (words top.now.rows) top.now.count b.entry.terms (offers_in b.entry.items.now b.entry.priorities.now) first result.next result.waiting }
 {
-    let count = o.count();
+    let count = b.count();
     let mut d = 0;
     for i in first..count {
-        let c = offered_at(a, o, i);
+        let c = offered_at(b, i);
         match gathering::deferred::defer(s, new, d, top, c) {
             Fare::Nothing => {}
             Fare::Waits => d += 1,
@@ -261,30 +239,30 @@ fn swap(s: &[u8], new: &mut [u8], top: &Victims, a: Terms, o: Inventory, first: 
 }
 
 // Announces items from the first on: those that come in wait, then the victims go, and one more pass lets in those that have waited.
-fn settle(s: &mut [u8], top: &Victims, a: Terms, o: Inventory, first: usize) -> Part
+fn settle(s: &mut [u8], top: &Victims, b: Batch, first: usize) -> Part
     requires { Kept s.old × Whole s.old × VictimsIn s.old (words top.now.rows) top.now.count
-        × (a.clock + request_lifetime < word) × (first ≤ length (offers_in o.items.now o.priorities.now)) }
-    ensures { Settled s.old s.new top.now.count a (offers_in o.entry.items.now o.entry.priorities.now) first result.next result.waiting }
+        × (first ≤ length (offers_in b.items.now b.priorities.now)) }
+    ensures { Settled s.old s.new top.now.count b.entry.terms (offers_in b.entry.items.now b.entry.priorities.now) first result.next result.waiting }
 {
     let mut new = region();
     gathering::region::clear(&mut new);
-    let p = swap(s, &mut new, top, a, o, first);
+    let p = swap(s, &mut new, top, b, first);
     gathering::going::go(s, top, p.waiting);
     let rows = Rows {
         bytes: &new,
         count: p.waiting,
     };
-    gathering::coming::come_in(s, a.connection, rows);
+    gathering::coming::come_in(s, b.terms.connection.number, rows);
     p
 }
 
 // Announces some items from the first on, or none: the victims are found in one pass. Where nobody is left who can be evicted the other
 // items change nothing.
-fn announce_for_victims(s: &mut [u8], a: Terms, o: Inventory, first: usize) -> usize
-    requires { Kept s.old × Whole s.old × (a.preferred ≡ true) × (a.clock + request_lifetime < word) × (first < length (offers_in o.items.now o.priorities.now)) }
-    ensures { Went s.old s.new a (offers_in o.entry.items.now o.entry.priorities.now) first result }
+fn announce_for_victims(s: &mut [u8], b: Batch, first: usize) -> usize
+    requires { Kept s.old × Whole s.old × (b.terms.preferred ≡ true) × (first < length (offers_in b.items.now b.priorities.now)) }
+    ensures { Went s.old s.new b.entry.terms (offers_in b.entry.items.now b.entry.priorities.now) first result }
 {
-    let count = o.count();
+    let count = b.count();
     let mut top = Victims::none();
     let most = at_most(count - first);
     top.list(s, most);
@@ -292,7 +270,7 @@ fn announce_for_victims(s: &mut [u8], a: Terms, o: Inventory, first: usize) -> u
     if m == 0 {
         return count;
     }
-    let p = settle(s, &top, a, o, first);
+    let p = settle(s, &top, b, first);
     if (p.waiting == m) & (m < most) {
         return count;
     }
@@ -300,23 +278,23 @@ fn announce_for_victims(s: &mut [u8], a: Terms, o: Inventory, first: usize) -> u
 }
 
 // Announces items from the first on, one at least. Answers which comes next.
-fn announce_part(s: &mut [u8], a: Terms, o: Inventory, first: usize) -> usize
-    requires { Kept s.old × (1 ≤ a.connection) × (a.clock + request_lifetime < word) × (first < length (offers_in o.items.now o.priorities.now)) }
-    ensures { Announced s.old s.new a (offers_in o.entry.items.now o.entry.priorities.now) first result }
+fn announce_part(s: &mut [u8], b: Batch, first: usize) -> usize
+    requires { Kept s.old × (first < length (offers_in b.items.now b.priorities.now)) }
+    ensures { Announced s.old s.new b.entry.terms (offers_in b.entry.items.now b.entry.priorities.now) first result }
 {
-    if !displaces(s, a, o, first) {
-        return announce_some(s, a, o, first);
+    if !displaces(s, b, first) {
+        return announce_some(s, b, first);
     }
-    let next = announce_for_victims(s, a, o, first);
+    let next = announce_for_victims(s, b, first);
     if first < next {
         return next;
     }
-    announce_some(s, a, o, first)
+    announce_some(s, b, first)
 }
 
 // Announces the items: a part that comes in together costs one pass over the rows. Whether the connection is overloaded is read before
 // the first. The first part stands before the loop: what is called from two places has a frame of its own, and its arrays do not lie beside
-// those of the test of the bytes.
+// those of the test of the bytes. (The two bools are terms that document 01 gives the call: they count in a delay, and pick no step.)
 pub fn announce_transactions(
     s: &mut [u8],
     n: Connection,
@@ -329,21 +307,25 @@ pub fn announce_transactions(
     requires { Kept s.old }
     ensures { Becomes s.old s.new (λ m t. machine.announce_transactions m n.number clock.time preferred source (offers_in items.now priorities.now) t) }
 {
-    let late = overloaded(s, n.number);
-    let o = Inventory { items, priorities };
-    let count = o.count();
-    let a = Terms {
-        connection: n.number,
-        clock: clock.time,
-        preferred,
-        source,
-        late,
+    let late = overloaded(s, n);
+    let b = Batch {
+        terms: Terms {
+            connection: n,
+            clock,
+            preferred,
+            source,
+            late,
+        },
+        items,
+        priorities,
     };
+    let count = b.count();
     if count == 0 {
         return;
     }
-    let mut i = announce_part(s, a, o, 0);
+    let mut i = announce_part(s, b, 0);
+    // No range: how many items a part takes shows only behind it.
     while i < count {
-        i = announce_part(s, a, o, i);
+        i = announce_part(s, b, i);
     }
 }

@@ -1,11 +1,12 @@
 use native.Mathlib.Omega.{arith}
 use Rattle.ident.specs.Words.{key_num}
-use Rattle.claims.proofs.Known.{room-keys, named_positive, hand_none, hand_some}
+use Rattle.failing.proofs.Releasing.{named_positive}
+use Rattle.claims.proofs.Known.{room-keys, hand_none, hand_some}
 use Rattle.claims.proofs.hand_on.Goals as goal
 
 pub invariant_of-n : goal.invariant_of-n
 invariant_of-n c = record {
-  positive = named_positive (key_num c.args.k) c.args.clock (λ st s w. c.request_at-r.ensures.is st s w) c.requires c.in-Some.is;
+  positive = named_positive (key_num c.args.k) (λ st s w. c.request_at-r.ensures.is st s w) c.requires c.in-Some.is;
 }
 
 pub parents_for-parents-requires : goal.parents_for-parents-requires

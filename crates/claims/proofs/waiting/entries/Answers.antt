@@ -2,8 +2,8 @@ use mathlib.Core.Path.{◌∙◌}
 use Rattle.claims.proofs.Naming.{entries-items, entries-hashes}
 use Rattle.claims.proofs.waiting.entries.Goals as goal
 
-pub returns-then-items : goal.returns-then-items
-returns-then-items c = c.items.ensures ∙ entries-items c.args.items c.args.given.now c.if-items.true
+pub returns-in-Hashes : goal.returns-in-Hashes
+returns-in-Hashes c = c.hashes.ensures ∙ entries-hashes c.in-Hashes.is
 
-pub returns-else-items : goal.returns-else-items
-returns-else-items c = c.hashes.ensures ∙ entries-hashes c.args.items c.args.given.now c.if-items.false
+pub returns-in-Items : goal.returns-in-Items
+returns-in-Items c = c.items.ensures ∙ entries-items c.in-Items.is

@@ -10,15 +10,15 @@ pub loop-j-init : goal.loop-j-init
 loop-j-init c = none_yet _ _ _ c.hashes-j.ensures
 
 pub returns-then-same_hash : goal.returns-then-same_hash
-returns-then-same_hash c = found_here (c.loop-j.j - 1) c.loop-j.invariant
-    c.requires (omega (arith, c.loop-j-test.true))
-    (ap (λ (z : ℕ). eqb z (hash_num c.args.c)) (sym c.hash_in-x.ensures) ∙
-    sym c.same_hash.ensures ∙ c.if-same_hash.true) c.hash_in.ensures
+returns-then-same_hash c = rw c.in-Some.is (found_here (c.loop-j.j - 1) c.loop-j.invariant
+    c.args.claims.paired (omega (arith, c.loop-j-test.true))
+    (ap (λ (z : ℕ). eqb z (hash_num c.in-Some.c)) (sym c.hash_in-x.ensures) ∙
+    sym c.same_hash.ensures ∙ c.if-same_hash.true) c.hash_in.ensures)
 
 pub loop-j-preserved : goal.loop-j-preserved
-loop-j-preserved c = none_more (c.loop-j.j - 1) c.loop-j.invariant c.requires
-    (omega (arith, c.loop-j-test.true)) (ap (λ (z : ℕ). eqb z (hash_num c.args.c))
+loop-j-preserved c = none_more (c.loop-j.j - 1) c.loop-j.invariant c.args.claims.paired
+    (omega (arith, c.loop-j-test.true)) (ap (λ (z : ℕ). eqb z (hash_num c.in-Some.c))
     (sym c.hash_in-x.ensures) ∙ sym c.same_hash.ensures ∙ c.if-same_hash.false)
 
 pub returns : goal.returns
-returns c = found_none c.loop-j.invariant (omega (arith, c.loop-j-test.false))
+returns c = rw c.in-Some.is (found_none c.loop-j.invariant (omega (arith, c.loop-j-test.false)))

@@ -4,4 +4,4 @@ use Rattle.claims.proofs.LastOnes.{NoneFrom}
 use Rattle.claims.proofs.waiting.latest.Given as goal
 
 abbrev pub invariant-loop-j : goal.invariant-loop-j
-invariant-loop-j l = NoneFrom (hash_num l.c) (hashes_in l.keys) (hashes_in l.sums) l.j
+invariant-loop-j l = NoneFrom (hash_num l.c) (hashes_in l.claims.keys.now) (hashes_in l.claims.sums.now) l.j

@@ -5,14 +5,14 @@ use Rattle.wrapping.proofs.Swapped.{went_all, went-nobody}
 use Rattle.wrapping.proofs.offering.announce_for_victims.Goals as goal
 
 pub returns-then-m-eq0 : goal.returns-then-m-eq0
-returns-then-m-eq0 c = went-nobody c.args.a (offers_in
-    c.args.o.items.now
-    c.args.o.priorities.now)
+returns-then-m-eq0 c = went-nobody c.args.b.terms (offers_in
+    c.args.b.items.now
+    c.args.b.priorities.now)
     c.args.first
     c.requires.1 (c.list.ensures.2 (omega
     (arith, c.if-m-eq0.true, c.at_most-most.ensures.0))) c.if-m-eq0.true
     c.requires.2
-    c.requires.4
+    c.requires.3
     c.count-count.ensures
 
 pub settle-p-requires : goal.settle-p-requires
@@ -20,8 +20,7 @@ settle-p-requires c = (
   c.requires.0,
   c.requires.1,
   c.list.ensures.1,
-  c.requires.3,
-  omega (arith, c.requires.4),
+  omega (arith, c.requires.3),
 )
 
 pub returns-then-p-m : goal.returns-then-p-m

@@ -12,37 +12,26 @@ announce_for_victims-next-requires c =
       c.requires.0,
       z.0,
       z.1,
-      c.requires.2,
-      c.requires.3,
+      c.requires.1,
     )
 
 pub announce_some-requires-2 : goal.announce_some-requires-2
 announce_some-requires-2 c =
-    let os = offers_in c.args.o.items.now
-    c.args.o.priorities.now in
-    let peer : Peer c.args.a.connection =
-    record {
-      positive = c.requires.1;
-      small = omega (arith, c.well_formed.1.0);
-    } in
-    let typed = offers-fit _ _ c.args.o.bytes.0 c.args.o.bytes.1 in (
-      went_kept c.announce_for_victims-next.ensures peer c.requires.2
+    let os = offers_in c.args.b.items.now
+    c.args.b.priorities.now in
+    let peer : Peer c.args.b.terms.connection.number = record { positive = c.args.b.terms.connection.positive; small = omega (arith, c.well_formed.1.0) } in
+    let typed = offers-fit _ _ c.args.b.bytes.0 c.args.b.bytes.1 in (
+      went_kept c.announce_for_victims-next.ensures peer
           typed c.requires.0,
       c.requires.1,
-      c.requires.2,
-      c.requires.3,
     )
 
 pub returns : goal.returns
 returns c =
-    let os = offers_in c.args.o.items.now
-    c.args.o.priorities.now in
-    let peer : Peer c.args.a.connection =
-    record {
-      positive = c.requires.1;
-      small = omega (arith, c.well_formed.1.0);
-    } in
-    let typed = offers-fit _ _ c.args.o.bytes.0 c.args.o.bytes.1 in
+    let os = offers_in c.args.b.items.now
+    c.args.b.priorities.now in
+    let peer : Peer c.args.b.terms.connection.number = record { positive = c.args.b.terms.connection.positive; small = omega (arith, c.well_formed.1.0) } in
+    let typed = offers-fit _ _ c.args.b.bytes.0 c.args.b.bytes.1 in
     went_then c.announce_for_victims-next.ensures peer
-    c.requires.2 typed
+    typed
     (omega (arith, c.if-first-next.false)) c.announce_some-2.ensures

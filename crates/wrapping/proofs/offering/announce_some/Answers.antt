@@ -16,39 +16,25 @@ invariant_of-rows c = record { room = omega (arith, c.collect-p.ensures.few, c.c
 pub announce_one-requires-then-next-count : goal.announce_one-requires-then-next-count
 announce_one-requires-then-next-count c =
     let os = offers_in
-    c.args.o.items.now
-    c.args.o.priorities.now
+    c.args.b.items.now
+    c.args.b.priorities.now
     in
-    let peer : Peer
-    c.args.a.connection =
-    record {
-      positive =
-          c.requires.1;
-      small = omega
-          (arith, c.well_formed.1.0);
-    } in
-    let typed = offers-fit _ _ c.args.o.bytes.0 c.args.o.bytes.1 in
+    let peer : Peer c.args.b.terms.connection.number = record { positive = c.args.b.terms.connection.positive; small = omega (arith, c.well_formed.1.0) } in
+    let typed = offers-fit _ _ c.args.b.bytes.0 c.args.b.bytes.1 in
     let came = collects_in c.collect-p.ensures c.come_in.ensures in (
-      part_kept c.args.a os
+      part_kept c.args.b.terms os
           c.args.first
           c.collect-p.result.next came peer
-          c.requires.2 typed
+          typed
           c.requires.0,
-      c.requires.2,
       omega (arith, c.if-next-count.true, c.count-count.ensures),
     )
 
 pub returns-then-next-count : goal.returns-then-next-count
 returns-then-next-count c =
-    let os = offers_in c.args.o.items.now c.args.o.priorities.now in
-    let peer : Peer c.args.a.connection = record {
-      positive = c.requires.1;
-      small = omega (
-        arith,
-        c.well_formed.1.0,
-      );
-    } in
-    let typed = offers-fit _ _ c.args.o.bytes.0 c.args.o.bytes.1 in
+    let os = offers_in c.args.b.items.now c.args.b.priorities.now in
+    let peer : Peer c.args.b.terms.connection.number = record { positive = c.args.b.terms.connection.positive; small = omega (arith, c.well_formed.1.0) } in
+    let typed = offers-fit _ _ c.args.b.bytes.0 c.args.b.bytes.1 in
     let came = collects_in c.collect-p.ensures
     c.come_in.ensures in
     record {
@@ -58,8 +44,8 @@ returns-then-next-count c =
         c.if-next-count.true,
         c.count-count.ensures,
       );
-      table = part_join c.args.a os c.args.first c.collect-p.result.next came peer
-          c.requires.2 typed (c.collect-p.result.next + 1)
+      table = part_join c.args.b.terms os c.args.first c.collect-p.result.next came peer
+          typed (c.collect-p.result.next + 1)
           c.collect-p.ensures.from (omega arith) c.announce_one-then-next-count.ensures;
     }
 
@@ -70,7 +56,7 @@ returns c =
         arith,
         c.if-next-count.false,
         c.count-count.ensures,
-        c.requires.3,
+        c.requires.1,
       );
       inside = c.collect-p.ensures.inside;
       table = collects_in c.collect-p.ensures c.come_in.ensures;

@@ -1,12 +1,11 @@
 -- `wrapping::offering::announce_transactions` meets its contract.
-use Prim.Native.Nat.{◌+◌, ◌<◌}
 use mathlib.Core.Path.{refl, ◌∙◌}
 use native.Mathlib.Omega.{arith}
-use Rattle.machine.specs.Limits.{request_lifetime, word}
 use Rattle.machine.specs.Typed.{Each, OfferTyped}
 use Rattle.machine.proofs.Fail.{Peer}
 use Rattle.lent_lists.specs.Items.{offers_in}
 use Rattle.lent_lists.proofs.Inventory.{offers-fit}
+use Rattle.wrapping.specs.declared.offering.Terms.{Terms}
 use Rattle.wrapping.proofs.Batching.{batched_start, batched_kept, batched_more, batched_done}
 use Rattle.wrapping.proofs.offering.announce_transactions.Goals as goal
 
@@ -14,13 +13,13 @@ pub shape_of-s-then-count-eq0 : goal.shape_of-s-then-count-eq0
 shape_of-s-then-count-eq0 c = refl
 
 pub returns-then-count-eq0 : goal.returns-then-count-eq0
-returns-then-count-eq0 c = batched_done (batched_start _ _ _ _ _ _) (omega (arith, c.if-count-eq0.true, c.count-count.ensures))
+returns-then-count-eq0 c =
+    let a : Terms = record { connection = c.args.n; clock = c.args.clock; preferred = c.args.preferred; source = c.args.source; late = c.overloaded-late.result } in
+    batched_done (batched_start a _ _) (omega (arith, c.if-count-eq0.true, c.count-count.ensures))
 
 pub announce_part-i-requires : goal.announce_part-i-requires
 announce_part-i-requires c = (
   c.requires,
-  c.args.n.positive,
-  omega (arith, c.args.clock.early),
   omega (arith, c.if-count-eq0.false, c.count-count.ensures),
 )
 
@@ -28,18 +27,14 @@ pub loop-i-init : goal.loop-i-init
 loop-i-init c = (refl, c.announce_part-i.ensures.inside, λ u f b. b)
 
 pub announce_part-i-requires-in-loop-i : goal.announce_part-i-requires-in-loop-i
-announce_part-i-requires-in-loop-i c = let peer : Peer c.args.n.number = record { positive = c.args.n.positive; small = omega arith } in
-    let early : c.args.clock.time + request_lifetime < word = omega (arith, c.args.clock.early) in
-    let typed : Each OfferTyped (offers_in c.args.items.now c.args.priorities.now) = offers-fit c.args.items.now c.args.priorities.now
-    (λ j. omega (arith, c.type_inv.items j)) (λ j. omega (
-      arith,
-      c.type_inv.priorities j,
-    )) in
-    let begun = batched_more (batched_start c.args.n.number c.args.clock.time c.args.preferred c.args.source (offers_in c.args.items.now c.args.priorities.now) c.args.s.now) peer early typed
-    c.overloaded-late.ensures c.announce_part-i.ensures c.announce_part-i.auto.s in (
-      batched_kept (c.loop-i.invariant.2 c.args.s.now c.overloaded-late.ensures begun) peer early typed c.requires,
-      c.args.n.positive,
-      early,
+announce_part-i-requires-in-loop-i c =
+    let a : Terms = record { connection = c.args.n; clock = c.args.clock; preferred = c.args.preferred; source = c.args.source; late = c.overloaded-late.result } in
+    let os = offers_in c.args.items.now c.args.priorities.now in
+    let peer : Peer c.args.n.number = record { positive = c.args.n.positive; small = omega arith } in
+    let typed : Each OfferTyped os = offers-fit c.args.items.now c.args.priorities.now
+    (λ j. omega (arith, c.type_inv.items j)) (λ j. omega (arith, c.type_inv.priorities j)) in
+    let begun = batched_more (batched_start a os c.args.s.now) peer typed c.overloaded-late.ensures c.announce_part-i.ensures c.announce_part-i.auto.s in (
+      batched_kept (c.loop-i.invariant.2 c.args.s.now c.overloaded-late.ensures begun) peer typed c.requires,
       omega (arith, c.loop-i-test.true, c.count-count.ensures),
     )
 
@@ -52,30 +47,27 @@ loop-i-smaller c = omega (
 )
 
 pub loop-i-preserved : goal.loop-i-preserved
-loop-i-preserved c = let peer : Peer c.args.n.number = record { positive = c.args.n.positive; small = omega arith } in
-    let early : c.args.clock.time + request_lifetime < word = omega (arith, c.args.clock.early) in
-    let typed : Each OfferTyped (offers_in c.args.items.now c.args.priorities.now) = offers-fit c.args.items.now c.args.priorities.now
-    (λ j. omega (arith, c.type_inv.items j)) (λ j. omega
-    (arith, c.type_inv.priorities j)) in (
+loop-i-preserved c =
+    let os = offers_in c.args.items.now c.args.priorities.now in
+    let peer : Peer c.args.n.number = record { positive = c.args.n.positive; small = omega arith } in
+    let typed : Each OfferTyped os = offers-fit c.args.items.now c.args.priorities.now
+    (λ j. omega (arith, c.type_inv.items j)) (λ j. omega (arith, c.type_inv.priorities j)) in (
       c.announce_part-i-in-loop-i.auto.s ∙ c.loop-i.invariant.0,
       c.announce_part-i-in-loop-i.ensures.inside,
-      λ u f b. batched_more (c.loop-i.invariant.2 u f b) peer early typed f c.announce_part-i-in-loop-i.ensures c.announce_part-i-in-loop-i.auto.s,
+      λ u f b. batched_more (c.loop-i.invariant.2 u f b) peer typed f c.announce_part-i-in-loop-i.ensures c.announce_part-i-in-loop-i.auto.s,
     )
 
 pub shape_of-s : goal.shape_of-s
 shape_of-s c = c.loop-i.invariant.0 ∙ c.announce_part-i.auto.s
 
 pub returns : goal.returns
-returns c = let peer : Peer c.args.n.number = record { positive = c.args.n.positive; small = omega arith } in
-    let early : c.args.clock.time + request_lifetime < word = omega (arith, c.args.clock.early) in
-    let typed : Each OfferTyped (offers_in c.args.items.now c.args.priorities.now) = offers-fit c.args.items.now c.args.priorities.now
-    (λ j. omega (arith, c.type_inv.items j)) (λ j. omega (
-      arith,
-      c.type_inv.priorities j,
-    )) in
-    let begun = batched_more (batched_start c.args.n.number c.args.clock.time c.args.preferred c.args.source (offers_in c.args.items.now c.args.priorities.now) c.args.s.now) peer
-    early typed
-    c.overloaded-late.ensures c.announce_part-i.ensures c.announce_part-i.auto.s in
+returns c =
+    let a : Terms = record { connection = c.args.n; clock = c.args.clock; preferred = c.args.preferred; source = c.args.source; late = c.overloaded-late.result } in
+    let os = offers_in c.args.items.now c.args.priorities.now in
+    let peer : Peer c.args.n.number = record { positive = c.args.n.positive; small = omega arith } in
+    let typed : Each OfferTyped os = offers-fit c.args.items.now c.args.priorities.now
+    (λ j. omega (arith, c.type_inv.items j)) (λ j. omega (arith, c.type_inv.priorities j)) in
+    let begun = batched_more (batched_start a os c.args.s.now) peer typed c.overloaded-late.ensures c.announce_part-i.ensures c.announce_part-i.auto.s in
     batched_done (c.loop-i.invariant.2 c.args.s.now c.overloaded-late.ensures begun) (omega (
       arith,
       c.loop-i.invariant.1,

@@ -10,13 +10,13 @@ use Rattle.wrapping.proofs.offering.collect.Goals.{in-Nothing, in-Waits}
 
 pub loop-i-init : goal.loop-i-init
 loop-i-init c = (
-  collects_start c.args.a (offers_in c.args.o.items.now
-      c.args.o.priorities.now) c.requires.2 c.requires.4,
+  collects_start c.args.b.terms (offers_in c.args.b.items.now
+      c.args.b.priorities.now) c.requires.2 c.requires.3,
   refl,
 )
 
 pub offered_at-c-requires : goal.offered_at-c-requires
-offered_at-c-requires c = (c.requires.3, omega (arith, c.loop-i-test.true, c.count-count.ensures))
+offered_at-c-requires c = omega (arith, c.loop-i-test.true, c.count-count.ensures)
 
 pub set_aside-requires : goal.set_aside-requires
 set_aside-requires c = (
@@ -31,15 +31,15 @@ shape_of-new-in-Alone c = c.set_aside.auto.new ∙ c.loop-i.invariant.1
 pub returns-in-Alone : goal.returns-in-Alone
 returns-in-Alone c =
     let inside : c.loop-i.i
-    < length (offers_in c.args.o.items.now
-    c.args.o.priorities.now) =
+    < length (offers_in c.args.b.items.now
+    c.args.b.priorities.now) =
     omega (arith, c.loop-i-test.true, c.count-count.ensures) in
     collects_same c.loop-i.invariant.0 inside c.offered_at-c.ensures
     c.set_aside.ensures c.in-Alone.is
 
 pub loop-i-preserved : goal.loop-i-preserved
 loop-i-preserved c =
-    let inside : c.loop-i.i < length (offers_in c.args.o.items.now c.args.o.priorities.now) = omega (arith, c.loop-i-test.true, c.count-count.ensures) in
+    let inside : c.loop-i.i < length (offers_in c.args.b.items.now c.args.b.priorities.now) = omega (arith, c.loop-i-test.true, c.count-count.ensures) in
     let v = c.loop-i.invariant.0 in
     let e = c.set_aside.ensures in (
       elim c.match-set_aside.branch [

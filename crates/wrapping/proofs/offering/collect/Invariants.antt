@@ -7,4 +7,4 @@ use Rattle.wrapping.specs.Batches.{Collects}
 use Rattle.wrapping.proofs.offering.collect.Given as goal
 
 abbrev pub invariant-loop-i : goal.invariant-loop-i
-invariant-loop-i l = Collects l.s (words l.new) l.a (offers_in l.o.items.now l.o.priorities.now) l.first l.i l.m × (length l.new ≡ length l.initial.new)
+invariant-loop-i l = Collects l.s (words l.new) l.b.terms (offers_in l.b.items.now l.b.priorities.now) l.first l.i l.m × (length l.new ≡ length l.initial.new)

@@ -5,17 +5,17 @@ use native.Mathlib.Omega.{arith}
 use Rattle.ident.specs.Words.{item_num}
 use Rattle.machine.proofs.Owning.{one_most}
 use Rattle.requests.proofs.Pushing.{byte_one}
-use Rattle.wrapping.proofs.Batching.{delay_is}
+use Rattle.wrapping.proofs.Batching.{delay_is, witness-kind}
 use Rattle.wrapping.proofs.offering.delay.Goals as goal
 
 pub returns : goal.returns
 returns c =
-    let p = not c.args.preferred in
-    let v = c.args.source && not c.is_wtx-w.result in
-    let f = c.args.overloaded in
+    let p = not c.args.a.preferred in
+    let v = c.args.a.source && not c.eq-w.result in
+    let f = c.args.a.late in
     let a = c.from.ensures ∙ byte_one p in
     let b = c.from-2.ensures ∙ byte_one v in
     let d = c.from-3.ensures ∙ byte_one f in (
-      delay_is c.args.preferred c.args.source f (item_num c.args.item) c.is_wtx-w.ensures a b d,
+      delay_is c.args.a.preferred c.args.a.source f (item_num c.args.item) (c.eq-w.ensures ∙ witness-kind c.args.item.kind) a b d,
       omega (arith, a, b, d, one_most p, one_most v, one_most f),
     )

@@ -6,9 +6,9 @@ use Rattle.wrapping.proofs.offering.offered.Goals as goal
 
 pub returns : goal.returns
 returns c = ap (λ (d : ℕ). record {
-  connection = c.args.n;
+  connection = c.args.a.connection.number;
   item = item_num c.args.item;
-  ready = c.args.clock + d;
-  preferred = c.args.preferred;
+  ready = c.args.a.clock.time + d;
+  preferred = c.args.a.preferred;
   priority = c.args.priority;
 }) c.delay.ensures.0

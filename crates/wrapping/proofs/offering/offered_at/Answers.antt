@@ -10,20 +10,20 @@ use Rattle.wrapping.proofs.Batching.{offer_is}
 use Rattle.wrapping.proofs.offering.offered_at.Goals as goal
 
 pub item_at-item-requires : goal.item_at-item-requires
-item_at-item-requires c = omega (arith, c.requires.1, paired-inside (items_in c.args.o.items.now) (words c.args.o.priorities.now))
+item_at-item-requires c = omega (arith, c.requires, paired-inside (items_in c.args.b.items.now) (words c.args.b.priorities.now))
 
 pub get-priority-requires : goal.get-priority-requires
 get-priority-requires c = omega (
   arith,
-  c.requires.1,
-  paired-inside (items_in c.args.o.items.now) (words
-      c.args.o.priorities.now),
-  length-words c.args.o.priorities.now,
+  c.requires,
+  paired-inside (items_in c.args.b.items.now) (words
+      c.args.b.priorities.now),
+  length-words c.args.b.priorities.now,
 )
 
 pub returns : goal.returns
 returns c = λ d.
-    let a = c.args.a in
-    c.offered.ensures ∙ ap (λ (o : Offer). offered a.connection a.clock a.preferred a.source a.late o)
-    (offer_is c.args.o.items.now c.args.o.priorities.now
-    c.args.i c.requires.1 c.item_at-item.ensures c.get-priority.ensures d)
+    let a = c.args.b.terms in
+    c.offered.ensures ∙ ap (λ (o : Offer). offered a.connection.number a.clock.time a.preferred a.source a.late o)
+    (offer_is c.args.b.items.now c.args.b.priorities.now
+    c.args.i c.requires c.item_at-item.ensures c.get-priority.ensures d)

@@ -11,7 +11,6 @@ swap-p-requires c = (
   omega (arith, c.clear.auto.new),
   c.clear.ensures,
   c.requires.3,
-  c.requires.4,
 )
 
 pub go-requires : goal.go-requires

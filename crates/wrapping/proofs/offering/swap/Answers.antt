@@ -10,14 +10,14 @@ use Rattle.wrapping.proofs.offering.swap.Goals.{in-Nothing, in-Waits}
 
 pub loop-i-init : goal.loop-i-init
 loop-i-init c = (
-  swaps_start c.args.a (offers_in c.args.o.items.now
-      c.args.o.priorities.now) c.requires.4
-      c.requires.2 c.requires.1 c.requires.6,
+  swaps_start c.args.b.terms (offers_in c.args.b.items.now
+      c.args.b.priorities.now) c.requires.4
+      c.requires.2 c.requires.1 c.requires.5,
   refl,
 )
 
 pub offered_at-c-requires : goal.offered_at-c-requires
-offered_at-c-requires c = (c.requires.5, omega (arith, c.loop-i-test.true, c.count-count.ensures))
+offered_at-c-requires c = omega (arith, c.loop-i-test.true, c.count-count.ensures)
 
 pub defer-requires : goal.defer-requires
 defer-requires c = (
@@ -32,15 +32,15 @@ shape_of-new-in-Alone c = c.defer.auto.new ∙ c.loop-i.invariant.1
 pub returns-in-Alone : goal.returns-in-Alone
 returns-in-Alone c =
     let inside : c.loop-i.i < length (offers_in
-    c.args.o.items.now
-    c.args.o.priorities.now) = omega
+    c.args.b.items.now
+    c.args.b.priorities.now) = omega
     (arith, c.loop-i-test.true, c.count-count.ensures) in
     swaps_same c.loop-i.invariant.0 inside c.offered_at-c.ensures
     c.defer.ensures c.in-Alone.is
 
 pub loop-i-preserved : goal.loop-i-preserved
 loop-i-preserved c =
-    let inside : c.loop-i.i < length (offers_in c.args.o.items.now c.args.o.priorities.now) = omega (arith, c.loop-i-test.true, c.count-count.ensures) in
+    let inside : c.loop-i.i < length (offers_in c.args.b.items.now c.args.b.priorities.now) = omega (arith, c.loop-i-test.true, c.count-count.ensures) in
     let v = c.loop-i.invariant.0 in
     let e = c.defer.ensures in (
       elim c.match-defer.branch [
