@@ -45,6 +45,7 @@ impl Element for ListedItem {
 
     ghost held = { item_in };
 
+    // (The step of `ListedKey`, over another reader and another writer: three lines, which a function of closures would only hand on.)
     fn take(line: &[u8], e: usize, i: usize, items: &mut [u8]) -> Option<usize> {
         let item = item_at(line, e)?;
         put_item(items, i, item.value);

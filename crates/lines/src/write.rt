@@ -1,4 +1,7 @@
 // Values as text, written into lent bytes from an index on. Each function answers the index behind what it wrote.
+//
+// The index is no count of the bytes: it is where the text begins. (A cursor that holds the slice and the index is no plainer: beside what was written, each contract would
+// have to say that the cursor still holds the same slice, or its maker would not know the bytes.)
 ghost use Rattle.std.specs.Prelude.{◌≡◌, ◌+◌, ◌/◌, ◌≤◌, ltb, length};
 ghost use Rattle.regions.specs.Rows.{quad_number};
 ghost use Rattle.machine.specs.Text.{decimal_digits, decimal, hash_digits, hexadecimal, kind_letter, key_text};

@@ -71,7 +71,7 @@ fn count_number(names: &[u64], counts: &mut [u64], n: Option<u64>)
     heavy::count(names, counts, x);
 }
 
-// ---- the passes over the lines
+// ---- the passes over the lines (no `for`: an `Iterator` has no lists to lend to `Lines::next`)
 
 fn note_lines<N: Counted>(
     mut lines: Lines,
@@ -96,6 +96,7 @@ fn count_lines<N: Counted>(mut lines: Lines, names: &[u64], counts: &mut [u64], 
     }
 }
 
+// K zeros. (The bound says that there is an array of K words; a const parameter has no other place for it.)
 fn counters<const K: usize>() -> [u64; K]
     requires { K < 2 ^ 60 }
     ensures { (length result ≡ K) × (sum result ≡ 0) }

@@ -70,7 +70,7 @@ fn meets(m: Met, l: Line) -> Option<Met>
     }
 }
 
-// Whether the lines are placed, and no key falls.
+// Whether the lines are placed, and no key falls. (No `for`: an `Iterator` has no lists to lend to `Lines::next`.)
 fn placed(mut lines: Lines, lists: &mut Lists) -> bool
     ensures { result ≡ placed_from Start (lines_of_text (drop lines.entry.at lines.entry.text.now)) }
 {

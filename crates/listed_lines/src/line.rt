@@ -20,7 +20,7 @@ pub struct Head {
     pub ready: Option<Named<ident::Kind>>,
 }
 
-// A request without its candidates; of its parents how many.
+// A request without its candidates; of its parents how many. (`info` and `mark` are bits of the line itself: none says whether another field has a value.)
 #[derive(Clone, Copy)]
 pub struct Request {
     pub kind: ident::Kind,
@@ -32,6 +32,7 @@ pub struct Request {
     pub mark: bool,
 }
 
+// A candidate's line; `preferred` is one of its fields, with no value behind it.
 #[derive(Clone, Copy)]
 pub struct Candidate {
     pub connection: u64,

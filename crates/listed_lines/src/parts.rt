@@ -15,7 +15,7 @@ pub struct Owner {
     pub deadline: u64,
 }
 
-// A package: its combined hash, how many wtxids it has, whether it is Enqueued.
+// A package: its combined hash, how many wtxids it has, whether it is Enqueued: a bit of the line, of packages alone, as a request may be flagged too.
 #[derive(Clone, Copy)]
 pub struct Package {
     pub combined: regions::Quad,
@@ -44,7 +44,8 @@ pub fn owner_at(line: &[u8], e: usize) -> Option<Parsed<Option<Owner>>>
     maybe_at(line, e, owner_there)
 }
 
-// The package behind the comma at index e, or `none`; its wtxids go into `wtxids`.
+// The package behind the comma at index e, or `none`; its wtxids go into `wtxids`. (No `maybe_at`: that takes an `FnOnce`, whose `post` says nothing of what a call leaves in a
+// slice that the closure captures.)
 pub fn package_at(line: &[u8], e: usize, wtxids: &mut [u8]) -> Option<Parsed<Option<Package>>>
     requires { list_room ≤ length wtxids.old }
     ensures { Took (none_or (package_then short)) line.now (rest line.now (e + 1)) (package_at wtxids.new result) }

@@ -11,7 +11,8 @@ use crate::lawful::is_wtxid;
 use listed_lines::cursor::{Lines, Lists};
 use listed_lines::line::Candidate;
 
-// How many connections there are with those of the request; whether each of its candidates fits.
+// How many connections there are with those of the request; whether each of its candidates fits. (No `Option`: the count is there in either case, and crates/listed_pairs,
+// which passes candidates that do not fit too, needs it.)
 #[derive(Clone, Copy)]
 pub struct Gathered {
     pub count: usize,

@@ -28,6 +28,7 @@ fn rises(p: Pass, kind: ident::Kind, hash: regions::Quad) -> bool
     }
 }
 
+// A flag or a package takes a place. (Both are bits that are counted.)
 fn place_of(info: bool, packed: bool) -> u64
     ensures { result ≡ place_for info packed }
 {

@@ -25,7 +25,7 @@ fn mark_fits(kind: ident::Kind, mark: bool) -> bool
     !mark | !is_wtxid(kind)
 }
 
-// "flag or package only with an owner, never both, only on Wtxid keys; parents .. only beside flag or package"
+// The rows of the definition's table, by what the line has: "flag or package only with an owner, never both, only on Wtxid keys; parents .. only beside flag or package"
 fn packs(kind: ident::Kind, owned: bool, info: bool, packed: bool, parents: usize) -> bool
     ensures { result ≡ packs kind owned info packed parents }
 {

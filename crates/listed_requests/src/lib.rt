@@ -2,6 +2,8 @@
 // connection comes. A listing that is not gets refusal 12.
 //
 // The text is one that lists requests (`Body`, listed_form/specs/Given); a contract says what the definition's test says of them (specs/Parts).
+//
+// Lines are walked by `while`, with the lists lent anew for each line: an `Iterator` would have to hold them, and `gather` stops in front of a line that it leaves.
 #![tactic(auto)]
 
 pub mod candidates;

@@ -9,7 +9,8 @@ ghost use Rattle.reading.specs.Given.{values_of, FieldTaken, FormRead, WholeRead
 use crate::fields::{Parsed, bool_at, hash_at, item_at, key_at, number_at};
 use lines::read::Named;
 
-// The values of a line's fields, hashes as plain words; an item's hash is `hash`. What a form does not name is zero.
+// The values of a line's fields, hashes as plain words; an item's hash is `hash`. What a form does not name is zero. (`preferred` and `source` are fields as the others are: the
+// letters p and s. A field is an `Option` nowhere, since each call names by its form which of them it has read.)
 #[derive(Clone, Copy)]
 pub struct Values {
     pub kind: ident::Kind,
@@ -89,7 +90,7 @@ fn with_number(v: Values, f: u8, n: u64) -> Values
     }
 }
 
-// Whether the connection is preferred, or a wtxid source exists.
+// Whether the connection is preferred, or a wtxid source exists: b is the value that is put.
 fn with_bool(v: Values, f: u8, b: bool) -> Values
     ensures { values_of result ≡ put_bool f (values_of v) b }
 {

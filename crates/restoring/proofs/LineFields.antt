@@ -8,11 +8,8 @@ use lib.ListN.{length, take}
 use lib.Seq.{length-take-le}
 use mir.Val.{bool_byte}
 use Rattle.ident.specs.Words.{hash_bytes}
-use Rattle.ident.specs.declared.Kind.{Kind}
-use Rattle.ident.specs.declared.Kind.TheVariants.{Txid, Wtxid}
 use Rattle.ident.specs.declared.ItemKind.{ItemKind}
 use Rattle.ident.specs.declared.ItemKind.TheVariants.{Transaction, WitnessTransaction, WTx, Other}
-use Rattle.ident.specs.contracts.KindPartialEq.TheImpl.{eq-value as kind_eq}
 use Rattle.ident.specs.contracts.ItemKindPartialEq.TheImpl.{eq-value as item_kind_eq}
 use Rattle.words.specs.Words.{number, recs}
 use Rattle.words.proofs.Records.{length-recs, recs-take}

@@ -42,7 +42,7 @@ fn take_line(s: &mut [u8], last: Option<Request>, l: Line, lists: &Lists) -> Opt
     }
 }
 
-// The lines behind the first one, into a store that has its header.
+// The lines behind the first one, into a store that has its header. (No `for`: an `Iterator` has no lists to lend to `Lines::next`, and each line is taken with its own.)
 fn put_lines(mut lines: Lines, s: &mut [u8])
     requires { Headed lines.text.now lines.at s.old }
     ensures { (st : State) → Sound st → Body lines.entry.text.now lines.entry.at (requests_only st.table) → Shows s.old (bare st) → Shows s.new (untallied st) }

@@ -62,7 +62,7 @@ fn put_kind(out: &mut [u8], at: usize, kind: ident::Kind) -> usize
     }
 }
 
-// The letter of an item, by whether its key is a Wtxid and whether it is v.
+// The letter of an item, by whether its key is a Wtxid and whether it is v: two bits of a row, as the store packs them. (An `ident::ItemKind` has kinds that no row has.)
 pub fn put_letter(out: &mut [u8], at: usize, wtxid: bool, witness: bool) -> usize
     requires { at + 1 ≤ farthest }
     ensures { (result ≡ at + 1) × Lays out.old out.new at (item_kind_text (item_kind_as (kind_is (one wtxid)) (one witness))) result }
@@ -93,6 +93,7 @@ pub fn next_hash(out: &mut [u8], at: usize, h: ident::Hash) -> usize
     put_hash(out, from, q)
 }
 
+// The digit of a bool: b picks the text alone.
 pub fn next_bool(out: &mut [u8], at: usize, b: bool) -> usize
     requires { at + 2 ≤ farthest }
     ensures { (result ≤ at + 2) × Lays out.old out.new at (44 ∷ bool_text b) result }

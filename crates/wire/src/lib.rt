@@ -102,6 +102,7 @@ fn read_item(p: &[u8], a: usize, list: &mut [u8], i: usize)
     ident::put_hash(list, w * 8 + 8, h);
 }
 
+// (Here and in `write_items`: n is the payload's own count. Both slices go on behind n items, and the contract speaks of what stays there.)
 // Stores the n items of the payload, which stand from index at on, as the first of the list.
 fn read_items(p: &[u8], at: usize, n: usize, list: &mut [u8])
     requires { (at + wire_bytes * n ≤ length p.now) × (item_bytes * n ≤ length list.old) }

@@ -1,18 +1,10 @@
 -- `restoring::put_lines` meets its contract. The loop's invariant: with the lines that were read, the store has what those that are left do not bring.
 use mathlib.Core.Path.{refl, ◌∙◌}
-use native.Mathlib.Omega.{arith}
-use Rattle.std.specs.Prelude.{None}
-use Rattle.restoring.proofs.Walking.{walked_none, walked-room, walked_on, walked_all}
+use Rattle.restoring.proofs.Walking.{walked-room, walked_on, walked_all}
 use Rattle.restoring.proofs.put_lines.Goals as goal
-
-pub loop-line-init : goal.loop-line-init
-loop-line-init c = (refl, walked_none None c.requires.body.inside)
 
 pub take_line-last-requires : goal.take_line-last-requires
 take_line-last-requires c = walked-room c.loop-line.invariant.1 (rw c.loop-line.invariant.0 c.requires) c.in-Some.ensures.line
-
-pub loop-line-smaller : goal.loop-line-smaller
-loop-line-smaller c = let l = c.in-Some.ensures.line in rw c.in-Some.ensures.same (omega (arith, l.on, l.inside))
 
 pub loop-line-preserved : goal.loop-line-preserved
 loop-line-preserved c =

@@ -10,14 +10,8 @@ use Rattle.regions.specs.Rows.{quad_number}
 use Rattle.places.specs.Places.{blank}
 use Rattle.regions.proofs.Order.{number_quad}
 use Rattle.restoring.specs.Given.{ParentsIn}
-use Rattle.restoring.proofs.ParentLists.{filled_none, parents-shown, parents-inside, filled_more}
+use Rattle.restoring.proofs.ParentLists.{parents-shown, parents-inside, filled_more}
 use Rattle.restoring.proofs.new_places.push_parents.Goals as goal
-
-pub loop-j-init : goal.loop-j-init
-loop-j-init c = (filled_none c.args.i (hashes_in c.args.list.now), c.hashes-n.ensures)
-
-pub hash_in-h-requires : goal.hash_in-h-requires
-hash_in-h-requires c = omega (arith, c.loop-j.invariant.1, c.loop-j-test.true)
 
 pub push_parent-requires : goal.push_parent-requires
 push_parent-requires c = (
@@ -37,9 +31,6 @@ loop-j-preserved c =
           c.push_parent.ensures,
       inv.1,
     )
-
-pub shape_of-s : goal.shape_of-s
-shape_of-s c = c.loop-j.invariant.0.long
 
 pub returns : goal.returns
 returns c =
