@@ -7,10 +7,10 @@
 ghost use Rattle.std.specs.Prelude.{◌≡◌, ◌+◌, ◌*◌, ◌≤◌, ◌<◌, length};
 ghost use Rattle.ident.specs.Words.{key_num};
 ghost use Rattle.words.specs.Words.{words};
+ghost use Rattle.regions.specs.declared.Row.{Row};
 ghost use Rattle.regions.specs.Rows.{row_size, row_words};
 ghost use Rattle.store.specs.Shown.{Shown, Kept, Tallies};
 ghost use Rattle.requests.specs.Changes.{Makes};
-ghost use Rattle.package_stages.specs.Staying.{Moved, KeptIf, Compacted};
 ghost use Rattle.cutting.specs.Cuts.{between, cuts, row_in, row_key_in, stays, Dropped, lessen};
 
 use regions::ROW;
@@ -49,43 +49,6 @@ fn goes(r: regions::Row, p: Span) -> bool
     }
 }
 
-// Puts the row at `from` at `to`, which is not behind it.
-fn move_row(s: &mut [u8], to: usize, from: usize)
-    requires { (to ≤ from) × (8 * (row_size * (from + 1)) ≤ length s.old) }
-    ensures { Moved row_size row_words (words s.old) (words s.new) to from }
-{
-    if to < from {
-        regions::copy::<regions::Row>(s, to, from);
-    }
-}
-
-// Puts the i-th row behind the m that stay, unless it goes; answers how many stay then.
-fn keep_row(s: &mut [u8], m: usize, i: usize, p: Span) -> usize
-    requires { (m ≤ i) × (8 * (row_size * (i + 1)) ≤ length s.old) }
-    ensures { KeptIf row_size row_words (stays p.conn p.from p.to) (words s.old) (words s.new) m i result }
-{
-    let r = regions::read::<regions::Row>(s, i);
-    if goes(r, p) {
-        m
-    } else {
-        move_row(s, m, i);
-        m + 1
-    }
-}
-
-// Leaves those of n rows that stay, and zeros behind them; answers how many they are.
-fn compact(s: &mut [u8], n: usize, p: Span) -> usize
-    requires { 8 * (row_size * n) ≤ length s.old }
-    ensures { Compacted row_size row_words (stays p.conn p.from p.to) (words s.old) (words s.new) n result }
-{
-    let mut m = 0;
-    for i in 0..n {
-        m = keep_row(s, m, i, p);
-    }
-    regions::truncate::<regions::Row>(s, n, m);
-    m
-}
-
 // Takes the rows that go out of the store; answers how many they were.
 fn drop_rows(s: &mut [u8], p: Span) -> usize
     requires { Shown s.old }
@@ -94,7 +57,14 @@ fn drop_rows(s: &mut [u8], p: Span) -> usize
     let n = store::head::rows(s);
     let x = store::head::HEAD * 8;
     let y = (store::head::HEAD + store::head::limit(s) * ROW) * 8;
-    let m = compact(&mut s[x..y], n, p);
+    let m = regions::keep::retain::<regions::Row, _>(
+        &mut s[x..y],
+        n,
+        |r| -> bool
+            requires { length r.now ≡ 8 * row_size }
+            ensures { (x : Row) → words r.now ≡ row_words x → result ≡ stays p.conn p.from p.to x }
+        { !goes(regions::read::<regions::Row>(r, 0), p) },
+    );
     words::put(s, 3, m as u64);
     n - m
 }

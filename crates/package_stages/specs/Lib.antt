@@ -1,4 +1,3 @@
 pub mod Records
 pub mod Changes
-pub mod Staying
 pub mod Dead

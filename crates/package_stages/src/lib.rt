@@ -87,7 +87,7 @@ pub struct Owner {
     pub deadline: u64,
 }
 
-// Its rows are from .. to.
+// Its rows are from .. to. (The mark is the request's own: no other field stands or falls with it.)
 #[derive(Clone, Copy)]
 pub struct Request {
     pub from: usize,

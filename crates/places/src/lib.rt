@@ -38,7 +38,7 @@ pub const AWAITING: u64 = 2;
 
 pub const ENQUEUED: u64 = 3;
 
-// What a place has beside its lists. The counts are those of the lists.
+// What a place has beside its lists. The counts are those of the lists; the stage is a word, as any bytes may have one that names no stage.
 #[derive(Clone, Copy)]
 pub struct Head {
     pub hash: regions::Quad,
@@ -85,7 +85,7 @@ pub fn read_head(s: &[u8], i: usize) -> Head
     }
 }
 
-// Puts a place for the hash h in as the i-th of n, with no package and no parents.
+// Puts a place for the hash h in as the i-th of n, with no package and no parents. (The stage is any word: a type of stages would ask more.)
 pub fn insert_place(s: &mut [u8], n: usize, i: usize, h: regions::Quad, stage: u64)
     requires { (i ≤ n) × (8 * (place_size * (n + 1)) ≤ length s.old) }
     ensures { Inserted place_size place_words (words s.old) (words s.new) n i (blank (quad_number h) stage) }

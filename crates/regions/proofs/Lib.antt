@@ -6,3 +6,4 @@ pub mod Columns
 pub mod Removing
 pub mod Records
 pub mod Less
+pub mod Retaining

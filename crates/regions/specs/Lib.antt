@@ -2,3 +2,4 @@ pub mod Regions
 pub mod Order
 pub mod Rows
 pub mod Kinds
+pub mod Staying

@@ -3,7 +3,8 @@
 // A region is a slice whose word 0 is the region's first word. It holds records of a fixed number of words, in order, and zeros
 // behind them up to its capacity, so that a list of records has one image. Contracts say what happens to any words, and what happens
 // to a region that holds a list of records: an insertion in the words is an insertion in the list. A `requires` says only that the
-// records in question lie within the slice.
+// records in question lie within the slice. How many records a slice holds stands beside it: its length says only how many it can, and
+// the number is a word of the store's header.
 #![tactic(auto)]
 
 ghost use Rattle.std.specs.Prelude.{◌≡◌, ℕ, ◌+◌, ◌*◌, ◌≤◌, ◌<◌, List, [], ◌∷◌, length, get_or, take, drop, ltb};
@@ -16,6 +17,7 @@ ghost use Rattle.regions.specs.Order.{Sought, IsLowerBound, First, one};
 ghost use Rattle.regions.specs.Rows.{row_size, conn_size, quad_words, read_quad, quad_number, row_words, read_row};
 ghost use Rattle.regions.specs.Rows.{key_number, key_of, row_key, row_conn, conn_words, read_conn, conn_key};
 
+pub mod keep;
 pub mod listed;
 pub mod ranges;
 
@@ -26,6 +28,7 @@ pub const ROW: usize = 9;
 pub const CONN: usize = 3;
 
 // A hash as four words, w3 the most significant: the words stand in that order, so that the derived one is that of the numbers.
+// (No ident::Hash: an array is a list of any length in the logic, and the laws of records, `sized` and `back`, are of every value.)
 #[derive(Clone, Copy, Debug, PartialEq, Eq, PartialOrd, Ord)]
 pub struct Quad {
     pub w3: u64,
@@ -328,7 +331,7 @@ pub fn falls_short(m: Key, k: Key, after: bool) -> bool
     }
 }
 
-// Binary search: the first of the indices below n that does not fall short, or n.
+// Binary search, whose steps are no range: the first of the indices below n that does not fall short, or n.
 pub fn lower_bound<F: Fn(usize) -> bool>(n: usize, falls_short: F) -> usize
     requires { (i : ℕ) → i < n → F.pre falls_short i }
     ensures { IsLowerBound (F.post falls_short) n result }

@@ -20,7 +20,7 @@ ghost use Rattle.requests.specs.Changes.{candidate_of, Words, KeyWords, Spans, F
 
 pub mod whole;
 
-// One announcement: who can deliver, as what item, from when on, and how it ranks.
+// One announcement: who can deliver, as what item, from when on, and how it ranks. (`preferred` ranks by itself: no other field stands or falls with it.)
 #[derive(Clone, Copy)]
 pub struct Candidate {
     pub connection: u64,

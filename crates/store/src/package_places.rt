@@ -23,7 +23,7 @@ pub fn place_at(s: &[u8], i: usize) -> places::Head
     places::read_head(&s[x..y], i)
 }
 
-// Opens a place for the hash h as the i-th, with neither package nor parents.
+// Opens a place for the hash h as the i-th, with neither package nor parents. (The stage is any word: a type of stages would ask more.)
 pub fn open_place(s: &mut [u8], i: usize, h: regions::Quad, stage: u64)
     requires { Shown s.old × (i ≤ held_places_in s.old) × (held_places_in s.old < places_in s.old) }
     ensures { Turns s.old s.new (λ f. with_places (insert_at i (blank (quad_number h) stage) f.places) f) }

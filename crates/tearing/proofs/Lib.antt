@@ -3,6 +3,5 @@ pub mod Undoing
 pub mod TornTables
 pub mod PackageSpots
 pub mod Ebbing
-pub mod Sifting
 pub mod TearingRows
 pub mod TearingPlaces

@@ -18,9 +18,3 @@ ebb o c = record { conn = c.conn; held = c.held - 1; owned = c.owned - o }
 unfoldable pub ebbed : ℕ → ℕ → List Conn → List Conn
 ebbed n o [] = []
 ebbed n o (c ∷ l) = if eqb n c.conn then ebb o c ∷ l else c ∷ ebbed n o l
-
--- the i-th entry, put at m if it has a row; then r is the next of those that stay
-pub record KeptBusy (b b' : List ℕ) (m i r : ℕ) : Type 0 where
-  pub most : r ≤ m + 1
-  pub next : (f : Flat) (d : Conn) → Shows b f → r ≡ m + one (busy (get_or f.conns i d))
-  pub conns : (f : Flat) (d : Conn) → Shows b f → Shows b' (with_conns (if busy (get_or f.conns i d) then set f.conns m (get_or f.conns i d) else f.conns) f)

@@ -1,8 +1,13 @@
 // Connections that lose rows in one pass: entries of the tally stay until the pass is over, and those of no row are taken out together.
-ghost use Rattle.std.specs.Prelude.{◌≡◌, ◌+◌, ◌≤◌, ◌<◌, take};
-ghost use Rattle.store.specs.Shown.{conns_in, Shown, with_conns, Turns, Tallies};
+ghost use Rattle.std.specs.Prelude.{◌≡◌, ◌*◌, length};
+ghost use Rattle.words.specs.Words.{words};
+ghost use Rattle.regions.specs.declared.Conn.{Conn};
+ghost use Rattle.regions.specs.Rows.{conn_size, conn_words};
+ghost use Rattle.store.specs.Shown.{Shown, with_conns, Turns, Tallies};
 ghost use Rattle.package_stages.specs.Dead.{filter};
-ghost use Rattle.tearing.specs.Idle.{busy, ebbed, KeptBusy};
+ghost use Rattle.tearing.specs.Idle.{busy, ebbed};
+
+use regions::{CONN, ROW};
 
 // One row less of the connection x, whose bit of owning was o. Its entry stays.
 pub fn count_off(s: &mut [u8], x: u64, o: u64)
@@ -21,38 +26,22 @@ pub fn count_off(s: &mut [u8], x: u64, o: u64)
     }
 }
 
-// Puts the i-th entry behind the m that stay, if it has a row; answers how many stay then.
-fn keep_busy(s: &mut [u8], m: usize, i: usize) -> usize
-    requires { Shown s.old × (m ≤ i) × (i < conns_in s.old) }
-    ensures { KeptBusy s.old s.new m i result }
-{
-    let c = store::conns::conn_at(s, i);
-    if c.held == 0 {
-        return m;
-    }
-    store::conns::set_conn(s, m, c);
-    m + 1
-}
-
-// Takes the entries from the m-th on out, the last one first: no entry moves.
-fn cut_conns(s: &mut [u8], m: usize)
-    requires { Shown s.old × (m ≤ conns_in s.old) }
-    ensures { Turns s.old s.new (λ f. with_conns (take m f.conns) f) }
-{
-    for n in (m..store::head::conns(s)).rev() {
-        store::conns::drop_conn(s, n);
-    }
-}
-
 // Takes every entry of no row out of the tally.
 pub fn drop_idle(s: &mut [u8])
     requires { Shown s.old }
     ensures { Turns s.old s.new (λ f. with_conns (filter busy f.conns) f) }
 {
     let n = store::head::conns(s);
-    let mut m = 0;
-    for i in 0..n {
-        m = keep_busy(s, m, i);
-    }
-    cut_conns(s, m);
+    let l = store::head::limit(s);
+    let x = (store::head::HEAD + l * ROW) * 8;
+    let y = (store::head::HEAD + l * ROW + l * CONN) * 8;
+    let m = regions::keep::retain::<regions::Conn, _>(
+        &mut s[x..y],
+        n,
+        |c| -> bool
+            requires { length c.now ≡ 8 * conn_size }
+            ensures { (x : Conn) → words c.now ≡ conn_words x → result ≡ busy x }
+        { regions::read::<regions::Conn>(c, 0).held > 0 },
+    );
+    words::put(s, 4, m as u64);
 }

@@ -8,20 +8,19 @@ use Rattle.cutting.proofs.drop_rows.Goals as goal
 
 pub returns : goal.returns
 returns c =
-    let p = c.args.p in
-    let q = stays p.conn p.from p.to in
+    let q = stays c.args.p.conn c.args.p.from c.args.p.to in
     record {
       gone = λ f h.
           let n = c.rows-n.ensures.field f h in
-          let m = c.compact-m.ensures.count f.head.limit f.rows (sym n)
+          let m = c.retain-m.ensures.count q (λ x u b e p. p x e) f.head.limit f.rows (sym n)
           (rows-lent h (c.limit.ensures.field f h)) in
-          omega (arith, c.compact-m.ensures.most);
+          omega (arith, c.retain-m.ensures.most);
       rows = λ f h.
           let lim = c.limit.ensures.field f h in
           let n = c.rows-n.ensures.field f h in
           let held = rows-lent h lim in
-          let m = c.compact-m.ensures.count f.head.limit f.rows (sym n) held in
-          rows-counted h (search rules) (filter q f.rows) c.compact-m.result
-          (sym m) (rows_back h lim _ _ c.compact-m.auto.s
-          (c.compact-m.ensures.region f.head.limit f.rows (sym n) held)) c.put.ensures.word;
+          let m = c.retain-m.ensures.count q (λ x u b e p. p x e) f.head.limit f.rows (sym n) held in
+          rows-counted h (search rules) (filter q f.rows) c.retain-m.result
+          (sym m) (rows_back h lim _ _ c.retain-m.auto.s
+          (c.retain-m.ensures.region q (λ x u b e p. p x e) f.head.limit f.rows (sym n) held)) c.put.ensures.word;
     }

@@ -10,7 +10,7 @@ returns c = λ f h.
     let part = c.places_part-part.ensures in
     let held = lent h part in
     let n = sym (c.held_places-n.ensures.field f h) in
-    let m = c.compact-m.ensures.count f.head.places f.places n held in
-    places-counted h (search rules) (filter live f.places) c.compact-m.result (sym m) (came_back h part _ _
-    c.compact-m.auto.s (c.compact-m.ensures.region f.head.places f.places n held))
+    let m = c.retain-m.ensures.count live (λ x u b e p. p x e) f.head.places f.places n held in
+    places-counted h (search rules) (filter live f.places) c.retain-m.result (sym m) (came_back h part _ _
+    c.retain-m.auto.s (c.retain-m.ensures.region live (λ x u b e p. p x e) f.head.places f.places n held))
     c.put.ensures.word

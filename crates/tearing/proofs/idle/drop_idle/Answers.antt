@@ -1,39 +1,17 @@
 -- `tearing::idle::drop_idle` meets its contract.
-use native.Mathlib.Omega.{arith}
-use Rattle.tearing.proofs.Sifting.{sifting_none, sifting_shown, sifting_conns, sifting_more, sifting_end}
+use mathlib.Core.Path.{sym}
+use Rattle.store.proofs.Frame.{conns-lent, conns_back, conns-counted}
+use Rattle.package_stages.specs.Dead.{filter}
+use Rattle.tearing.specs.Idle.{busy}
+use borrow.Author.Rules.{rules}
 use Rattle.tearing.proofs.idle.drop_idle.Goals as goal
 
-pub loop-i-init : goal.loop-i-init
-loop-i-init c = sifting_none _
-
-pub keep_busy-m-requires : goal.keep_busy-m-requires
-keep_busy-m-requires c = (
-  sifting_shown c.loop-i.invariant c.requires,
-  c.loop-i.invariant.less,
-  omega (
-    arith,
-    sifting_conns c.loop-i.invariant c.requires.flat c.requires.shows,
-    c.loop-i-test.true,
-    c.conns-n.ensures.word,
-  ),
-)
-
-pub loop-i-preserved : goal.loop-i-preserved
-loop-i-preserved c = sifting_more c.loop-i.invariant
-    (omega (arith, c.conns-n.ensures.word, c.loop-i-test.true)) c.keep_busy-m.auto.s
-    c.keep_busy-m.ensures
-
-pub cut_conns-requires : goal.cut_conns-requires
-cut_conns-requires c = (
-  sifting_shown c.loop-i.invariant c.requires,
-  omega (
-    arith,
-    sifting_conns c.loop-i.invariant c.requires.flat c.requires.shows,
-    c.loop-i.invariant.less,
-    c.loop-i.invariant.most,
-  ),
-)
-
 pub returns : goal.returns
-returns c = sifting_end c.loop-i.invariant
-    (omega (arith, c.conns-n.ensures.word, c.loop-i-test.false)) c.cut_conns.ensures
+returns c = λ f h.
+    let lim = c.limit-l.ensures.field f h in
+    let n = sym (c.conns-n.ensures.field f h) in
+    let held = conns-lent h lim in
+    let m = c.retain-m.ensures.count busy (λ x u b e p. p x e) f.head.limit f.conns n held in
+    conns-counted h (search rules) (filter busy f.conns) c.retain-m.result (sym m) (conns_back h lim _ _
+    c.retain-m.auto.s (c.retain-m.ensures.region busy (λ x u b e p. p x e) f.head.limit f.conns n held))
+    c.put.ensures.word
