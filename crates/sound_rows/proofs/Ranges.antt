@@ -1,9 +1,8 @@
 -- Words of bytes are below 2^64, so that the records read from them are in their ranges.
-use Prim.Native.Nat.{ℕ, zero, suc, ◌+◌, ◌*◌, ◌^◌, ◌≤◌, ◌<◌}
+use Prim.Native.Nat.{ℕ, ◌+◌, ◌*◌, ◌≤◌, ◌<◌}
 use mathlib.Core.Path.{◌≡◌}
 use mathlib.Core.Logic.{inl, inr}
-use mathlib.Core.List.{List, [], ◌∷◌}
-use native.Mathlib.Nat.{pow-suc, le_trans}
+use mathlib.Core.List.{List}
 use native.Mathlib.Omega.{arith}
 use mir.Syntax.{w8}
 use mir.Val.{Fits}
@@ -11,11 +10,10 @@ use lib.Dec.{ltb}
 use lib.ListN.{length, take, drop, get_or, length-take, get_or-eq_default}
 use lib.Seq.{get_or-take, get_or-drop, length-take-le}
 use borrow.Author.Tests.{ltb-true, ltb-false}
-use Rattle.words.specs.Words.{number, recs, words}
+use Rattle.words.specs.Words.{words}
 use Rattle.words.proofs.Words.{length-words, word_at}
 use Rattle.words.proofs.Digits.{number_below}
 use Rattle.machine.specs.Limits.{word}
-use Rattle.machine.specs.Typed.{Each}
 use Rattle.machine.proofs.Tests.{test}
 use Rattle.regions.specs.declared.Row.{Row}
 use Rattle.regions.specs.declared.Quad.{Quad}
@@ -25,7 +23,7 @@ use Rattle.regions.specs.contracts.Row as R
 use Rattle.regions.proofs.Row.TheLaws as R'
 use denote.Laws.{Is}
 use denote.Struct.Laws as LL
-use Rattle.regions.specs.Rows.{read_quad, read_row}
+use Rattle.regions.specs.Rows.{read_quad}
 use Rattle.store.specs.FlatSound.{QuadFits}
 
 -- every element is below b

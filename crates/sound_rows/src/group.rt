@@ -42,7 +42,8 @@ fn least_hash(rows: Records<Row>, i: usize, m: usize, j: usize) -> Quad
     x
 }
 
-// The first of the rows whose hash is above h, or the part's end.
+// The first of the rows whose hash is above h, or the part's end. (A loop here and below: tried with `find`, which left the clause itself
+// open. It speaks of rows by their index, and `find` of the items that calls of a range's `next` gave.)
 pub fn run_end(part: Part, h: Quad) -> usize
     ensures { Run (words part.entry.rows.bytes.now) part.entry.from part.entry.to (quad_number h) result }
 {

@@ -3,17 +3,11 @@ use native.Mathlib.Omega.{arith}
 use lib.ListN.{length-set}
 use Rattle.words.proofs.Records.{length-recs}
 use Prim.Native.Nat.{◌-◌}
-use mathlib.Core.Path.{refl, ◌∙◌}
+use mathlib.Core.Path.{◌∙◌}
 use Rattle.words.specs.Words.{words}
 use Rattle.regions.specs.Rows.{conn_size, read_conn}
 use Rattle.sound_conns.proofs.Tally.{charged_turn, conn-fits}
 use Rattle.sound_conns.proofs.charge_all.Goals as goal
-
-pub loop-i-init : goal.loop-i-init
-loop-i-init c = (omega arith, omega arith, refl, λ j h l. absurd (omega arith))
-
-pub returns-then-j-t : goal.returns-then-j-t
-returns-then-j-t c = (λ j h l. c.loop-i.invariant.3 j (omega arith) l, search rules)
 
 pub charge-requires : goal.charge-requires
 charge-requires c =

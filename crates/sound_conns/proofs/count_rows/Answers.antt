@@ -12,11 +12,6 @@ loop-i-init c =
     let a = c.args in
     (omega arith, refl, tallied_none a.conns.count (words a.conns.bytes.now) (words a.rows.bytes.now) a.pass.done a.pass.last a.pass.lo a.t.now c.requires.1)
 
-pub take_row-requires : goal.take_row-requires
-take_row-requires c =
-    let p = c.requires in
-    (p.0, p.2, (λ j h l. p.3 j (omega (arith, c.loop-i.invariant.1)) l), omega arith)
-
 pub returns-then-not-take_row : goal.returns-then-not-take_row
 returns-then-not-take_row c =
     let a = c.args in

@@ -27,8 +27,5 @@ loop-i-preserved c = filling_more c.requires.0
     c.loop-i.invariant c.loop-i-test.true
     c.row_at-r.ensures c.add_conn.ensures c.add_conn.auto.s
 
-pub shape_of-s : goal.shape_of-s
-shape_of-s c = c.loop-i.invariant.size
-
 pub returns : goal.returns
 returns c = filling_done c.requires.0 c.loop-i.invariant (omega (arith, c.loop-i.invariant.most, c.loop-i-test.false))

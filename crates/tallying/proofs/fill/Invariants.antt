@@ -1,5 +1,4 @@
 -- `tallying::fill` meets its contract.
-use Prim.Native.Nat.{◌-◌}
 use Rattle.tallying.proofs.Filling.{Filling}
 use Rattle.tallying.proofs.fill.Given as goal
 

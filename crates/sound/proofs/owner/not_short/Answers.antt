@@ -7,6 +7,3 @@ pub returns-then-i-rows : goal.returns-then-i-rows
 returns-then-i-rows c =
     let a = c.args in
     past_decides (words a.rows.bytes.now) a.rows.count a.k a.i (omega arith) c.key_at.ensures c.key_less.ensures
-
-pub returns : goal.returns
-returns c = λ h. absurd (omega arith)

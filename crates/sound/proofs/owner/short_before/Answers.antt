@@ -3,12 +3,6 @@ use Rattle.words.specs.Words.{words}
 use Rattle.sound.proofs.Owned.{short-decides}
 use Rattle.sound.proofs.owner.short_before.Goals as goal
 
-pub returns-then-rows-i : goal.returns-then-rows-i
-returns-then-rows-i c = λ z. absurd (omega (arith, z.0))
-
-pub returns-then-i-eq0 : goal.returns-then-i-eq0
-returns-then-i-eq0 c = (omega arith, λ h. absurd (omega arith))
-
 pub returns : goal.returns
 returns c =
     let a = c.args in

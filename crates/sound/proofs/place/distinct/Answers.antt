@@ -12,9 +12,6 @@ loop-k-init c =
     let a = c.args in
     (omega arith, repeat_none (words a.s.now) a.a a.n, c.requires.1, λ x e. absurd (none_met (words a.s.now) a.a a.n x e))
 
-pub bounds-slots-x : goal.bounds-slots-x
-bounds-slots-x c = omega (arith, c.loop-k.invariant.2)
-
 pub has_marked-requires : goal.has_marked-requires
 has_marked-requires c =
     let l = c.loop-k in
@@ -29,9 +26,6 @@ returns-then-has_marked c =
       repeat_met (words a.s.now) a.a a.n l.k (omega arith) l.invariant.0 c.read_quad-h.ensures (rw e at (sym c.has_marked.ensures ∙ c.if-has_marked.true)),
       l.invariant.2,
     )
-
-pub bounds-slots-x-in-loop-k : goal.bounds-slots-x-in-loop-k
-bounds-slots-x-in-loop-k c = omega (arith, c.loop-k.invariant.2)
 
 pub loop-k-preserved : goal.loop-k-preserved
 loop-k-preserved c =

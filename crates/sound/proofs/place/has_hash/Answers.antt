@@ -1,13 +1,10 @@
 use borrow.Author.Rules.{rules}
 use native.Mathlib.Omega.{arith}
-use mathlib.Core.Path.{refl, sym, ◌∙◌}
+use mathlib.Core.Path.{sym, ◌∙◌}
 use Rattle.words.specs.Words.{words}
 use Rattle.regions.specs.Rows.{quad_number}
 use Rattle.sound.proofs.Hashes.{elem_here, elem_past, elem_end}
 use Rattle.sound.proofs.place.has_hash.Goals as goal
-
-pub loop-k-init : goal.loop-k-init
-loop-k-init c = (omega arith, search rules, refl)
 
 pub returns-then-same_hash : goal.returns-then-same_hash
 returns-then-same_hash c = sym (c.loop-k.invariant.2 ∙ elem_here (words c.args.s.now)

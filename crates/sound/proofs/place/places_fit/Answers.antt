@@ -1,23 +1,17 @@
 use borrow.Author.Rules.{rules}
 use borrow.Author.Count.{below_more}
 use native.Mathlib.Omega.{arith}
-use Prim.Native.Nat.{ℕ, ◌*◌, ◌≤◌}
+use Prim.Native.Nat.{◌*◌, ◌≤◌}
 use mathlib.Core.Path.{◌≡◌}
-use lib.ListN.{length, length-replicate}
+use lib.ListN.{length}
 use Rattle.words.specs.Words.{words, recs, Decides}
 use Rattle.words.proofs.Words.{length-words}
 use Rattle.regions.specs.Rows.{row_size, read_row}
 use Rattle.places.specs.Places.{place_size}
-use Rattle.sound.specs.Places.{PlaceSound, place_at, PlaceFollows, slot_count}
+use Rattle.sound.specs.Places.{PlaceSound, place_at, PlaceFollows}
 use Rattle.sound_rows.proofs.Decide.{passed, failed}
 use Rattle.sound.proofs.PlaceWalk.{places_made, place_of, follow_iff, place-lent}
 use Rattle.sound.proofs.place.places_fit.Goals as goal
-
-pub loop-i-init : goal.loop-i-init
-loop-i-init c = (length-replicate {A = ℕ} slot_count 0, omega arith, (λ r k h. absurd (omega arith)), λ k h. absurd (omega arith))
-
-pub place_fits-requires : goal.place_fits-requires
-place_fits-requires c = (omega arith, c.loop-i.invariant.0)
 
 pub returns-then-not-place_fits : goal.returns-then-not-place_fits
 returns-then-not-place_fits c =

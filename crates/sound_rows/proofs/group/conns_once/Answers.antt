@@ -7,9 +7,6 @@ use Rattle.sound_rows.proofs.Decide.{passed, failed, decides_iff}
 use Rattle.sound_rows.proofs.Groups.{in_none}
 use Rattle.sound_rows.proofs.group.conns_once.Goals as goal
 
-pub returns-then-marked_once : goal.returns-then-marked_once
-returns-then-marked_once c = (c.marked_once.ensures.0 c.if-marked_once.true, c.marked_once.ensures.1)
-
 pub returns-then-not-apart : goal.returns-then-not-apart
 returns-then-not-apart c =
     let x = c.args in (

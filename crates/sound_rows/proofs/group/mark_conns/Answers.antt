@@ -10,15 +10,6 @@ loop-k-init c =
     let a = c.args in
     (omega arith, omega arith, c.requires, marks_none (words a.part.rows.bytes.now) a.part.to a.mark a.slots.now)
 
-pub bounds-slots-x : goal.bounds-slots-x
-bounds-slots-x c = omega (arith, c.loop-k.invariant.2)
-
-pub returns-then-slots-x : goal.returns-then-slots-x
-returns-then-slots-x c = (tt, c.loop-k.invariant.2)
-
-pub bounds-slots-x-in-loop-k : goal.bounds-slots-x-in-loop-k
-bounds-slots-x-in-loop-k c = omega (arith, c.loop-k.invariant.2)
-
 pub loop-k-preserved : goal.loop-k-preserved
 loop-k-preserved c =
     let a = c.args in

@@ -1,6 +1,5 @@
 use mathlib.Core.Path.{sym, ◌∙◌}
 use mathlib.Core.List.{[]}
-use Rattle.words.specs.Words.{words}
 use Rattle.machine.proofs.Tests.{never}
 use Rattle.sound_rows.specs.Parts.{rows_of}
 use Rattle.sound_rows.proofs.ConnMarks.{marked-nil}

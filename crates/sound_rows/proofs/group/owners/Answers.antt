@@ -4,9 +4,6 @@ use Rattle.words.specs.Words.{words}
 use Rattle.sound_rows.proofs.Groups.{owners_turn, owners_none}
 use Rattle.sound_rows.proofs.group.owners.Goals as goal
 
-pub loop-i-init : goal.loop-i-init
-loop-i-init c = (omega arith, search rules, omega arith, omega arith)
-
 pub loop-i-preserved : goal.loop-i-preserved
 loop-i-preserved c =
     let t = owners_turn (words c.args.part.rows.bytes.now) c.loop-i.i c.args.part.to (omega arith)

@@ -1,26 +1,12 @@
 use borrow.Author.Rules.{rules}
 use native.Mathlib.Omega.{arith}
-use Prim.Native.Nat.{◌<◌, ◌≤◌}
+use Prim.Native.Nat.{◌≤◌}
 use mathlib.Core.Path.{◌≡◌, sym, ◌∙◌}
-use borrow.Author.Tests.{ltb-true, ltb-false}
+use borrow.Author.Tests.{ltb-false}
 use Rattle.words.specs.Words.{words}
 use Rattle.regions.specs.Rows.{quad_number}
 use Rattle.sound_rows.proofs.Groups.{upto_more}
 use Rattle.sound_rows.proofs.group.run_end.Goals as goal
-
-pub loop-i-init : goal.loop-i-init
-loop-i-init c = (omega arith, search rules, λ k a b. absurd (omega arith))
-
-pub returns-then-quad_less : goal.returns-then-quad_less
-returns-then-quad_less c =
-    let l : quad_number c.args.h < quad_number c.hash_at.result =
-    ltb-true _ _ (sym c.quad_less.ensures ∙ c.if-quad_less.true) in
-    record {
-      least = c.loop-i.invariant.0;
-      most = c.loop-i.invariant.1;
-      upto = c.loop-i.invariant.2;
-      past = λ _. omega (arith, c.hash_at.ensures);
-    }
 
 pub loop-i-preserved : goal.loop-i-preserved
 loop-i-preserved c =

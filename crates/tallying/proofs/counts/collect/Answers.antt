@@ -22,21 +22,6 @@ loop-j-preserved c = (
   c.count-m.auto.r ∙ c.loop-j.invariant.1,
 )
 
-pub overflow_mul-m : goal.overflow_mul-m
-overflow_mul-m c = omega (arith, c.requires.0, c.loop-j.invariant.0.short, c.loop-j.invariant.0.most)
-
-pub overflow_sub-n : goal.overflow_sub-n
-overflow_sub-n c = omega (arith, c.loop-j.invariant.0.short, c.loop-j.invariant.0.most)
-
-pub overflow_mul-n : goal.overflow_mul-n
-overflow_mul-n c = omega (arith, c.requires.0, c.loop-j.invariant.0.short, c.loop-j.invariant.0.most)
-
-pub clear-requires : goal.clear-requires
-clear-requires c = omega (arith, c.requires.0, c.loop-j.invariant.1, c.loop-j.invariant.0.short, c.loop-j.invariant.0.most)
-
-pub shape_of-r : goal.shape_of-r
-shape_of-r c = c.clear.auto.s ∙ c.loop-j.invariant.1
-
 pub returns : goal.returns
 returns c = collecting_done c.loop-j.invariant.0 (omega
     (arith, c.loop-j.invariant.0.most, c.loop-j-test.false)) (omega (

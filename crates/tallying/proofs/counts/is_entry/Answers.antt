@@ -1,7 +1,6 @@
 -- `tallying::counts::is_entry` meets its contract.
-use native.Mathlib.Omega.{arith}
 use mathlib.Core.Path.{sym, ap, ◌∙◌}
-use borrow.Author.Tests.{eqb-true, eqb-false, ltb-true}
+use borrow.Author.Tests.{eqb-true, eqb-false}
 use Rattle.regions.specs.declared.Conn.{Conn}
 use Rattle.tallying.proofs.counts.is_entry.Goals as goal
 
@@ -10,11 +9,4 @@ returns-then-p-table c = record {
   inside = λ _. c.if-p-table.true;
   is = λ L cs d l h e. ap (λ (k : Conn). k.conn) (sym (c.get.ensures.region L cs d l h)) ∙ eqb-true _ _ e;
   not = λ L cs d l h e m z. eqb-false _ _ e (ap (λ (k : Conn). k.conn) (c.get.ensures.region L cs d l h) ∙ z);
-}
-
-pub returns-else-p-table : goal.returns-else-p-table
-returns-else-p-table c = record {
-  inside = λ e. ltb-true _ _ e;
-  is = λ L cs d l h e. absurd (omega (arith, ltb-true _ _ e));
-  not = λ L cs d l h e m z. omega (arith, c.if-p-table.false);
 }
