@@ -94,9 +94,6 @@ first_supplied : {z b w a : List ℕ} {n now : ℕ} {st : State} → Empty w →
     → Supplied z n now b w a 0 0 st st.table (unlisted x)
 first_supplied {a = a} e s o x k = supplied-unlisted a (beside_none s o e) x k
 
-pub unlisted_few : {q : Reserve} {x : Bool} → q ≡ unlisted x → q.count ≤ list_space
-unlisted_few e = let i = ap (λ (o : Reserve). o.count) e in omega arith
-
 pub none_waits : {z b w a : List ℕ} {n now : ℕ} {q : Reserve} {x : Bool} → Kept b → Empty w → Exhausted b x → q ≡ unlisted x → Supplies z n now b w a 0 0 q
 none_waits {z} {b} {w} {a} {n} {now} {x = x} k e g i =
     subst (Supplies z n now b w a 0 0) (sym i)

@@ -12,17 +12,15 @@ use Rattle.machine.specs.State.{Table, State, Answer, limits_of, on_table}
 use Rattle.machine.specs.Announce.{greatest, victims, anywhere}
 use Rattle.machine.specs.Sound.{Sound}
 use Rattle.machine.proofs.Fail.{Peer}
-use Rattle.machine.proofs.Tests.{never}
 use Rattle.store.specs.Image.{Writes}
 use Rattle.requests.specs.Changes.{Tells}
 use Rattle.announcing.specs.Answers.{Answered, one_parent}
 use Rattle.announcing.specs.Evicts.{found}
-use Rattle.announcing.specs.Falls.{most_listed, list_space, VictimsIn}
 use Rattle.announcing.proofs.Nobody.{none_greatest as nobody}
 use Rattle.announcing.proofs.Scanning.{none_found}
 use Rattle.apart.specs.Noting.{parent_in, Spent}
 use Rattle.apart.specs.Waiting.{Next, Waits, LetIn, NextIn}
-use Rattle.apart.specs.Displacing.{Further, Reserve, unlisted, Lacks, Restocked, ShutOut, Unaided, Supplied, Supplies, FurtherIn, FurtherAlone, SwapsWith, SpentIn}
+use Rattle.apart.specs.Displacing.{Further, Reserve, unlisted, Restocked, ShutOut, Unaided, Supplied, Supplies, FurtherIn, FurtherAlone, SwapsWith, SpentIn}
 use Rattle.apart.proofs.Alongside.{none_sound, none_writes, alone_by}
 use Rattle.apart.proofs.Spent.{spent_next, spent_left}
 use Rattle.apart.proofs.ForVictims.{supplied-spent, supplied-unlisted}
@@ -30,22 +28,6 @@ use Rattle.apart.proofs.ForVictims.{supplied-spent, supplied-unlisted}
 -- ---- victims listed
 
 module _ {b v : List ℕ} {d : ℕ} {q : Reserve} where
-  pub restocked_same : q.count ≤ list_space → Restocked b v v d q q
-  restocked_same l = record { few = l; stock = λ st s g r k. k }
-
-  pub restocked_listed : {v' : List ℕ} {left m : ℕ} {f : Bool} → Lacks b d left f → f ≡ true → left ≤ most_listed → m ≤ left → VictimsIn b v' m
-      → Restocked b v v' d q (record { count = m; gone = 0; spent = false })
-  restocked_listed x e l k h = record {
-    few = omega arith;
-    stock = λ st s g r _.
-        let y = h.listed st s g in
-        record {
-          whole = λ _. omega (arith, x.full e st s g, r);
-          first = λ _. record { rows = y.rows; count = y.count; holds = y.holds; first = y.first };
-          none_left = λ i. never i;
-        };
-  }
-
   -- there are none
   pub restocked_none : {v' : List ℕ} (x : Option Row) {n : Bool} {r : Reserve} → is_some x ≡ not n → r ≡ unlisted n → Tells b (λ (t : Table). found x ≡ greatest (victims anywhere t))
       → Restocked b v v' d q r

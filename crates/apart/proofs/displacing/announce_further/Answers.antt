@@ -10,14 +10,6 @@ swap_with-requires c = (
   omega (arith, c.requires.2),
 )
 
-pub overflow_add-q : goal.overflow_add-q
-overflow_add-q c = omega (
-  arith,
-  c.swap_with.ensures.0.some
-      c.if-swap_with.true,
-  c.restock.ensures.few,
-)
-
 pub returns-then-swap_with : goal.returns-then-swap_with
 returns-then-swap_with c = rw c.swap_with.ensures.1 (further-swapped c.restock.ensures
     c.swap_with.ensures.0 c.if-swap_with.true

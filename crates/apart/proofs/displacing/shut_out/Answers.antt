@@ -4,11 +4,7 @@ use mathlib.Core.Path.{sym, ◌∙◌}
 use native.Mathlib.Omega.{arith}
 use borrow.Author.Tests.{leb-true}
 use Rattle.machine.specs.Table.{held}
-use Rattle.machine.proofs.Tests.{never}
 use Rattle.apart.proofs.displacing.shut_out.Goals as goal
-
-pub returns-then-is_candidate : goal.returns-then-is_candidate
-returns-then-is_candidate c = record { new = λ e. never e; full = λ e. never e }
 
 pub returns : goal.returns
 returns c = record {

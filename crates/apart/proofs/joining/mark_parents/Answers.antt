@@ -8,9 +8,6 @@ use Rattle.apart.proofs.joining.mark_parents.Goals as goal
 pub loop-j-init : goal.loop-j-init
 loop-j-init c = ((omega arith, c.requires.1), refl, marking-starts _ _ _ _)
 
-pub hash-h-requires : goal.hash-h-requires
-hash-h-requires c = omega (arith, c.loop-j-test.true, c.requires.2)
-
 pub mark-requires : goal.mark-requires
 mark-requires c = marking_kept c.loop-j.invariant.2 c.requires.0
 
@@ -23,9 +20,6 @@ loop-j-preserved c = (
       (hash-four c.hash-h.result c.hash-h.type_inv))
       c.hash-h.ensures c.from.ensures c.mark.ensures,
 )
-
-pub shape_of-s : goal.shape_of-s
-shape_of-s c = c.loop-j.invariant.1
 
 pub returns : goal.returns
 returns c = marking-ends c.loop-j.invariant.2 (omega (arith, c.loop-j.invariant.0, c.loop-j-test.false))

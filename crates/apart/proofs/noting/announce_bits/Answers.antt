@@ -69,9 +69,6 @@ loop-j-preserved c = (
       c.announce_further-kept.ensures (ap (λ (x : ℕ). c.loop-j.bits + x) (kept_weight c.loop-j.w c.announce_further-kept.result c.from.ensures)),
 )
 
-pub shape_of-s : goal.shape_of-s
-shape_of-s c = c.loop-j.invariant.1
-
 pub returns : goal.returns
 returns c = way-ends (words c.args.p.slot.now) c.args.p.connection.number
     c.args.p.clock c.args.from

@@ -1,5 +1,4 @@
 -- `apart::silent::drop_due` meets its contract.
-use mathlib.Core.Path.{◌∙◌}
 use native.Mathlib.Omega.{arith}
 use Rattle.store.proofs.Frame.{sizes}
 use Rattle.announcing.proofs.DroppingRows.{dropping_none, dropping_rows, dropping_shown, dropping_more, dropping_end}
@@ -36,9 +35,6 @@ drop_rows-requires c = (
   omega (arith, c.loop-i.invariant.less, c.loop-i.invariant.most, c.rows-n.ensures.word),
   omega (arith, dropping_rows c.loop-i.invariant c.requires, c.rows-n.ensures.word),
 )
-
-pub shape_of-s : goal.shape_of-s
-shape_of-s c = c.drop_rows.auto.s ∙ c.loop-i.invariant.size
 
 pub returns : goal.returns
 returns c = λ st s w p. dropped-writes c.args.clock st s p

@@ -18,11 +18,5 @@ loop-i-preserved c = (
   forgetting_goes c.loop-i.invariant.3 c.set_note.ensures,
 )
 
-pub shape_of-s : goal.shape_of-s
-shape_of-s c = c.loop-i.invariant.1
-
-pub shape_of-first : goal.shape_of-first
-shape_of-first c = c.loop-i.invariant.2
-
 pub returns : goal.returns
 returns c = forgetting_ends (omega (arith, c.loop-i.invariant.0, c.loop-i-test.false)) c.loop-i.invariant.3

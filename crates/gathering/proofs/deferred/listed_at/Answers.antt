@@ -1,15 +1,10 @@
 -- `gathering::deferred::listed_at` meets its contract.
-use mathlib.Core.Path.{sym}
 use native.Mathlib.Omega.{arith}
-use Rattle.machine.proofs.Tests.{never}
 use Rattle.gathering.proofs.Deferrals.{passed_none, passed_more, passed_all}
 use Rattle.gathering.proofs.deferred.listed_at.Goals as goal
 
 pub loop-i-init : goal.loop-i-init
 loop-i-init c = (omega arith, passed_none)
-
-pub returns-then-same_hash : goal.returns-then-same_hash
-returns-then-same_hash c = λ e. never (sym e)
 
 pub loop-i-preserved : goal.loop-i-preserved
 loop-i-preserved c = (

@@ -5,14 +5,6 @@ use Rattle.apart.specs.Displacing.{Reserve}
 use Rattle.apart.proofs.NextParent.{restocked_none}
 use Rattle.apart.proofs.displacing.Known.restock.Goals as goal
 
-pub list-requires : goal.list-requires
-list-requires c = (
-  c.requires.0,
-  c.is_lacking.ensures.some
-      c.if-not-is_lacking.false,
-  c.requires.2,
-)
-
 pub returns-then-self-eq0 : goal.returns-then-self-eq0
 returns-then-self-eq0 c =
     let listing : ℕ → Reserve = λ m. record { count = m; gone = 0; spent = c.is_none-self.result } in

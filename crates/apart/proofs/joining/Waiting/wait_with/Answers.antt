@@ -7,9 +7,6 @@ use Rattle.gathering.proofs.Faring.{set-same}
 use Rattle.apart.proofs.Alongside.{waits_with}
 use Rattle.apart.proofs.joining.Waiting.wait_with.Goals as goal
 
-pub returns-then-p-lt-FEW : goal.returns-then-p-lt-FEW
-returns-then-p-lt-FEW c = (record { joins = λ e. never e; alone = λ _. refl }, refl)
-
 pub returns-in-Waits : goal.returns-in-Waits
 returns-in-Waits c = (
   waits_with (record { positive = c.args.p.connection.positive; small = omega arith })
