@@ -110,9 +110,6 @@ pub turning_start : (now : ℕ) (l : List Entry) (s u : List ℕ) → Turning no
 turning_start now l s u = record { few = omega arith; store_long = refl; buffer-long = refl; going = λ st g w. going_start now l st s u g w }
 
 module _ {now n i : ℕ} {l rest : List Entry} {s₀ s u₀ u : List ℕ} (v : Turning now l rest s₀ s u₀ u n i) where
-  pub turning_kept : Kept s₀ → Kept s
-  turning_kept k = going_kept (v.going k.state k.sound k.writes)
-
   pub turning_more : {s' u' : List ℕ} {n' : ℕ} (a : Entry) (rest' : List Entry) → rest ≡ a ∷ rest' → now ≤ latest_clock → entry_bytes * i + entry_bytes ≤ length u₀ → length s' ≡ length s
       → length u' ≡ length u → OneMore s s' u u' now a n n'
       → Turning now l rest' s₀ s' u₀ u' n' (i + 1)

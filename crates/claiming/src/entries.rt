@@ -1,4 +1,7 @@
 // Entries in an answer buffer, 112 bytes each (docs/DECISIONS.md, 4), and the claim of one entry that writes it there.
+//
+// An entry's fields are words of lent bytes, laid out for the C interface: u or b is the buffer, and w a field's place in it or n the entry's, no count.
+// Each field goes through `words::put` and `words::get`, which are `to_le_bytes` and `from_le_bytes` over a part of the buffer.
 ghost use Rattle.std.specs.Prelude.{◌≡◌, [], ◌∷◌, ◌+◌, ◌*◌, ◌/◌, ◌%◌, ◌≤◌, length};
 ghost use Rattle.ident.specs.Number.{item_kind_of, kind_is, kind_number};
 ghost use Rattle.ident.specs.Words.{key_num, item_num};
@@ -10,8 +13,21 @@ ghost use Rattle.claiming.specs.Claiming.{entry_of, item_answer, OneMore, key_fr
 
 use machine::clock::Clock;
 
-// Words of an entry.
+// Bytes of an entry, and its words.
+pub const ENTRY_BYTES: usize = 112;
+
 pub const ENTRY: usize = 14;
+
+// Where its fields stand among them, behind the key.
+pub const CONNECTION: usize = 5;
+
+const ITEM: usize = 6;
+
+const READY: usize = 11;
+
+const PREFERRED: usize = 12;
+
+const PRIORITY: usize = 13;
 
 // Stores the key k from the word w on: its kind, and its hash.
 fn put_key(u: &mut [u8], w: usize, k: ident::Key)
@@ -49,8 +65,8 @@ pub fn put_entry(u: &mut [u8], n: usize, e: crate::Entry)
 {
     let w = n * ENTRY;
     put_key(u, w, e.key);
-    put_item(u, w + 5, e.connection, e.item);
-    put_three(u, w + 11, e.ready, u64::from(e.preferred), e.priority);
+    put_item(u, w + CONNECTION, e.connection, e.item);
+    put_three(u, w + READY, e.ready, u64::from(e.preferred), e.priority);
 }
 
 // Claims one entry, and writes it as the n-th of the answer if it is taken. Answers how many are written now.
@@ -99,7 +115,7 @@ fn item_at(b: &[u8], w: usize) -> ident::Item
 pub fn entries(b: &[u8]) -> usize
     ensures { result ≡ length b.now / entry_bytes }
 {
-    b.len() / 112
+    b.len() / ENTRY_BYTES
 }
 
 // The i-th entry of the bytes.
@@ -110,11 +126,11 @@ pub fn entry_in(b: &[u8], i: usize) -> crate::Entry
     let w = i * ENTRY;
     crate::Entry {
         key: key_at(b, w),
-        connection: words::get(b, w + 5),
-        item: item_at(b, w + 6),
-        ready: words::get(b, w + 11),
-        preferred: words::get(b, w + 12) != 0,
-        priority: words::get(b, w + 13),
+        connection: words::get(b, w + CONNECTION),
+        item: item_at(b, w + ITEM),
+        ready: words::get(b, w + READY),
+        preferred: words::get(b, w + PREFERRED) != 0,
+        priority: words::get(b, w + PRIORITY),
     }
 }
 

@@ -17,7 +17,7 @@ use machine::limits::REQUEST_LIFETIME;
 pub mod checked;
 pub mod entries;
 
-// What a plan answers and a claim is given: a candidate with its request's key. Entries are equal "in every field".
+// What a plan answers and a claim is given: a candidate with its request's key. Entries are equal "in every field", of which `preferred` is one (document 01).
 #[derive(Clone, Copy, Debug, PartialEq, Eq)]
 pub struct Entry {
     pub key: ident::Key,

@@ -1,47 +1,26 @@
 -- Next poll and cursors in the words of the header: read, and written.
-use Prim.Native.Nat.{ℕ, zero, suc, ◌+◌, ◌≤◌}
+use Prim.Native.Nat.{ℕ, ◌+◌, ◌≤◌}
 use mathlib.Core.Path.{◌≡◌, refl, ap, ◌∙◌}
 use mir.Val.{bool_byte}
 use Rattle.std.specs.Prelude.{Option, Some, None, is_some}
 use Rattle.std.specs.Option.{unwrap_or}
 use mathlib.Core.List.{List, [], ◌∷◌}
-use mathlib.Core.Option.{some}
 use native.Mathlib.Omega.{arith}
 use lib.ListN.{length, set, length-set}
 use Rattle.ident.specs.declared.Kind.{Kind}
 use Rattle.ident.specs.declared.Kind.TheVariants.{Txid, Wtxid}
-use Rattle.ident.specs.declared.Key.{Key}
-use Rattle.ident.specs.Words.{key_num}
 use Rattle.words.specs.Words.{splice}
 use Rattle.words.proofs.Splice.{splice_more}
-use Rattle.regions.specs.declared.Key.{Key as RowKey}
-use Rattle.regions.specs.Rows.{quad_words}
 use Rattle.regions.proofs.Gap.{set_one}
-use Rattle.requests.specs.Changes.{KeyWords}
 use Rattle.store.specs.Flat.{kind_bit}
-use Rattle.store.specs.Image.{cursor_tag, cursor_words, poll_words}
-use Rattle.store.specs.Read.{poll_is, cursor_is}
+use Rattle.store.specs.Image.{cursor_tag, poll_words}
 use Rattle.cursors.specs.Numbers.{time_num}
 
 -- ---- tags
 
-pub poll-is : (tag time : ℕ) → (tag ≡ 0 → ⊥) → some time ≡ poll_is tag time
-poll-is zero time h = absurd (h refl)
-poll-is (suc n) time h = refl
-
-pub wtxid-tag : (tag h : ℕ) → (tag ≡ 0 → ⊥) → (tag ≡ 1 → ⊥) → some (record { kind = Wtxid; hash = h }) ≡ cursor_is tag h
-wtxid-tag zero h n m = absurd (n refl)
-wtxid-tag (suc zero) h n m = absurd (m refl)
-wtxid-tag (suc (suc t)) h n m = refl
-
 tag_is : (k : Kind) → kind_bit k + 1 ≡ cursor_tag k
 tag_is Txid = refl
 tag_is Wtxid = refl
-
-pub key-stands : (k : Key) (w : RowKey) → KeyWords k w → ((w.kind + 1) ∷ quad_words w.hash) ≡ cursor_words (some (key_num k))
-key-stands k w h =
-    let t : w.kind + 1 ≡ cursor_tag k.kind = ap (λ (n : ℕ). n + 1) h.kind ∙ tag_is k.kind in
-    (λ i. t i ∷ quad_words (h.hash i))
 
 -- the two words of a next poll
 pub poll-pair : (m : Option ℕ) → poll_words (time_num m) ≡ bool_byte (is_some m) ∷ unwrap_or m 0 ∷ []

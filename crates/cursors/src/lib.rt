@@ -49,7 +49,8 @@ pub fn set_next_poll(s: &mut [u8], m: Option<u64>)
     words::put(s, NEXT + 1, m.unwrap_or(0));
 }
 
-// A cursor stands in five words: a tag, and its hash. Tag 0 is no cursor, 1 a Txid, 2 a Wtxid.
+// A cursor stands in five words from the word a on: a tag, and its hash. Tag 0 is no cursor, 1 a Txid, 2 a Wtxid: a number in a store's image (docs/STORE.md), and a
+// kind from here on.
 fn kind_in(tag: u64) -> Option<ident::Kind>
     ensures { TagSays tag result }
 {

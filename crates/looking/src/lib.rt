@@ -4,16 +4,17 @@
 // since a row further on may own the request.
 #![tactic(auto)]
 
-ghost use Rattle.std.specs.Prelude.{ℕ, ◌≡◌, List, [], ◌∷◌};
+ghost use Rattle.std.specs.Prelude.{ℕ, ◌≡◌, ◌+◌, ◌≤◌, ◌<◌, List, [], ◌∷◌};
 ghost use Rattle.std.proofs.Math.Option.{Option, none};
-ghost use Rattle.regions.specs.declared.Row.{Row};
 ghost use Rattle.machine.specs.State.{Candidate, Owner, Table};
 ghost use Rattle.machine.specs.Later.{next_look};
+ghost use Rattle.store.specs.Flat.{Flat};
 ghost use Rattle.store.specs.Gather.{candidate_at, owner_at, gather};
-ghost use Rattle.store.specs.Shown.{Kept};
+ghost use Rattle.store.specs.Image.{Shows};
+ghost use Rattle.store.specs.Shown.{rows_in, Shown, Kept};
 ghost use Rattle.requests.specs.Changes.{Tells};
+ghost use Rattle.announcing.specs.Evicts.{part};
 ghost use Rattle.choosing.specs.Choosing.{option_of};
-ghost use Rattle.sweeping.specs.Batches.{last_row};
 ghost use Rattle.looking.specs.Looking.{Looks, LooksAt};
 
 use choosing::later::{earlier, later};
@@ -27,7 +28,7 @@ pub struct Look {
     pub rest: Option<u64>,
 }
 
-// No row yet of the key at hand; rest: the next look at the keys behind it.
+// No row yet of the key at hand; rest: the next look at the keys behind it. (Where a key begins, and no conversion of `rest`.)
 fn before_rows(rest: Option<u64>) -> Look
     ensures { (clock : ℕ) (t : Table) → option_of rest ≡ next_look clock t → Looks clock none [] t result }
 {
@@ -60,11 +61,13 @@ fn with_row(v: Look, clock: u64, r: regions::Row) -> Look
     }
 }
 
-// One row more, which ends a key or is followed by a row of its own.
-fn turn(v: Look, clock: u64, r: regions::Row, ends: bool) -> Look
-    ensures { (rs : List Row) → ends ≡ last_row r rs → LooksAt clock (gather rs) v → LooksAt clock (gather (r ∷ rs)) result }
+// One row more, the i-th of n: it ends a key, or is followed by a row of its own.
+fn turn(s: &[u8], v: Look, clock: u64, i: usize, n: usize) -> Look
+    requires { Shown s.now × (i < n) × (n ≤ rows_in s.now) }
+    ensures { (f : Flat) → Shows s.now f → LooksAt clock (gather (part (i + 1) n f.rows)) v → LooksAt clock (gather (part i n f.rows)) result }
 {
-    let key = if ends {
+    let r = store::rows::row_at(s, i);
+    let key = if sweeping::batch::ends_key(s, r, i + 1, n) {
         before_rows(settled(v, clock))
     } else {
         v
@@ -80,9 +83,7 @@ pub fn next_look(s: &[u8], clock: u64) -> Option<u64>
     let n = store::head::rows(s);
     let mut v = before_rows(None);
     for i in (0..n).rev() {
-        let r = store::rows::row_at(s, i);
-        let ends = sweeping::batch::ends_key(s, r, i + 1, n);
-        v = turn(v, clock, r, ends);
+        v = turn(s, v, clock, i, n);
     }
     settled(v, clock)
 }

@@ -1,8 +1,8 @@
 -- The walk along the rows of one kind up to a hash, row by row.
 use Prim.Native.Nat.{ℕ, ◌+◌, ◌≤◌, ◌<◌}
-use mathlib.Core.Path.{◌≡◌, refl, sym, ap, subst, ◌∙◌}
+use mathlib.Core.Path.{◌≡◌, sym, ap, subst, ◌∙◌}
 use mathlib.Core.List.{List, ◌∷◌}
-use mathlib.Core.Option.{Option, none}
+use mathlib.Core.Option.{Option}
 use native.Mathlib.Nat.{le_refl}
 use native.Mathlib.Omega.{arith}
 use lib.ListN.{length, get_or}
@@ -30,9 +30,6 @@ pub record Gone (rs : List Row) (from to h i n : ℕ) (v : rust.Option Owner) : 
   pub found : Option Holding
   pub says : Says v found
   pub rest : or_holding found (holding_over h (part i to rs)) ≡ holding_over h (part from to rs)
-
-gone_start : (rs : List Row) (from to h : ℕ) (v : rust.Option Owner) → Says v none → Gone rs from to h from 0 v
-gone_start rs from to h v e = record { counts = λ g l. omega arith; passes = λ g l. refl; rises = λ a. a; found = none; says = e; rest = refl }
 
 module _ {rs : List Row} {from to h i n : ℕ} {v : rust.Option Owner} (k : Gone rs from to h i n v) where
   gone_done : to ≤ i → Stretched rs from to h (record { at = i; keys = n; owner = v })

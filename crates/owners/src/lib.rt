@@ -114,7 +114,7 @@ fn tag(kind: ident::Kind) -> u64
     }
 }
 
-// Stores v as the n-th owner of u.
+// Stores v as the n-th owner of u. (n is a place: how many there are is said by the hashes.)
 fn put_owner(u: &mut [u8], n: usize, v: Option<Owner>)
     requires { owner_bytes * n + owner_bytes ≤ length u.old }
     ensures { u.new ≡ splice u.old (owner_bytes * n) (bytes_of (owner_words v)) }

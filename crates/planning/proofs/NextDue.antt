@@ -10,7 +10,6 @@ use Rattle.ident.specs.declared.Key.{Key as Given}
 use Rattle.ident.specs.Number.{Key, place}
 use Rattle.ident.specs.Words.{key_num}
 use Rattle.regions.specs.declared.Row.{Row}
-use Rattle.regions.specs.declared.Key.{Key as RowKey}
 use Rattle.regions.specs.Rows.{key_number, key_of}
 use Rattle.machine.specs.State.{State}
 use Rattle.machine.specs.Plan.{Due}
@@ -18,12 +17,10 @@ use Rattle.machine.specs.Sound.{Sound}
 use Rattle.store.specs.Flat.{flat_of, rows_of}
 use Rattle.store.specs.Gather.{key_at}
 use Rattle.store.specs.Image.{Writes}
-use Rattle.store.specs.Shown.{rows_in, row_numbers, Seek, Kept}
+use Rattle.store.specs.Shown.{rows_in, Kept}
 use Rattle.store.proofs.Counts.{distinct_in}
 use Rattle.store.proofs.Frame.{sizes}
 use Rattle.store.proofs.Keys.{row_number}
-use Rattle.requests.specs.Changes.{KeyWords}
-use Rattle.requests.proofs.Keeping.{rows_in_order}
 use Rattle.apart.specs.Silent.{is_due}
 use Rattle.planning.specs.Expiring.{due_from, row_due, due_rows, SeekDue, BeginsAt, DueNext, NextDue}
 use Rattle.planning.specs.declared.expiring.Overdue.{Overdue}
@@ -35,20 +32,6 @@ use Rattle.planning.proofs.RowsDue.{table-rows, rows_from, rows_next, rows_over}
 
 row_said : (now x : ℕ) (r : Row) → x ≤ place (key_at r) → is_due now r ≡ true → row_due now x r ≡ record { key = key_at r; connection = r.conn } ∷ []
 row_said now x r h e = rw (le-leb x (place (key_at r)) h, e) refl
-
-pub all_rows : (b : List ℕ) → BeginsAt b 0 0
-all_rows b = record {
-  few = omega arith;
-  bound = λ st s o. record { most = omega arith; below = λ j h. absurd (omega arith); above = λ j h l. omega arith };
-}
-
-pub behind-key : {b : List ℕ} {k : Given} {key : RowKey} {from : ℕ} → KeyWords k key → Seek b (λ f. row_numbers f.rows) (rows_in b) (key_number key + 1) from → BeginsAt b (place (key_num k) + 1) from
-behind-key {k = k} {key} w q = record {
-  few = q.most;
-  bound = λ st s o.
-      let e : key_number key + 1 ≡ place (key_num k) + 1 = omega (arith, w.number) in
-      rw e at (q.bound (flat_of st) o (rows_in_order st s));
-}
 
 module _ {b : List ℕ} (now : ℕ) {x from : ℕ} {o : rust.Option Row} (q : BeginsAt b x from) (z : SeekDue b now from o) where
   module _ (st : State) (s : Sound st) (w : Writes b st) where

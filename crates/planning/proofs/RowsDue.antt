@@ -139,6 +139,3 @@ module _ {b : List ℕ} (now : ℕ) {i : ℕ} {r : Row} (h : i < rows_in b) (e :
   pass-row t f x w =
       rows_next now x r i f.rows (omega (arith, h, (sizes w).rows))
       ∙ ap (λ (l : List Due). l ++ due_rows now x (drop (i + 1) f.rows)) (not_due now x (get_or f.rows i r) (subst (λ (q : Row). is_due now q ≡ false) (e f r w) t))
-
-  pub meet_row : is_due now r ≡ true → (f : Flat) (d : Row) → Shows b f → is_due now (get_or f.rows i d) ≡ true
-  meet_row t f d w = subst (λ (q : Row). is_due now q ≡ true) (e f d w) t

@@ -1,26 +1,25 @@
 -- What the contracts of a plan's expired owners say.
-use Rattle.std.specs.Prelude.{ℕ, suc, ◌+◌, ◌≤◌, ◌<◌, ◌≡◌, true, false, List, [], ◌∷◌, ◌++◌, leb, length, get_or, drop, if◌then◌else◌}
+use Rattle.std.specs.Prelude.{ℕ, suc, ◌+◌, ◌≤◌, ◌<◌, ◌≡◌, true, List, [], ◌∷◌, ◌++◌, leb, length, get_or, drop, if◌then◌else◌}
 use Rattle.std.specs.Prelude as rust
 use Rattle.ident.specs.Number.{top, Key, place}
 use Rattle.ident.specs.Words.{key_num}
 use Rattle.regions.specs.declared.Row.{Row}
-use Rattle.regions.specs.Order.{Bound}
 use Rattle.machine.specs.Limits.{Limits}
 use Rattle.machine.specs.State.{Request, Table, State, on_table}
 use Rattle.machine.specs.Table.{at}
 use Rattle.machine.specs.Fail.{Listed, failed, announce_parents, parents_for}
 use Rattle.machine.specs.Plan.{Due, due_of, due, expired}
 use Rattle.machine.specs.Sound.{Sound}
-use Rattle.store.specs.Flat.{Flat, rows_of}
+use Rattle.store.specs.Flat.{Flat}
 use Rattle.store.specs.Gather.{key_at}
-use Rattle.store.specs.Image.{Shows, Writes}
-use Rattle.store.specs.Shown.{rows_in, row_numbers}
+use Rattle.store.specs.Image.{Shows}
+use Rattle.store.specs.Shown.{rows_in}
 use Rattle.requests.specs.Changes.{Makes, Tells}
+pub use Rattle.sweeping.specs.Batches.{behind, BeginsAt}
 use Rattle.places.specs.Places.{Place}
 use Rattle.apart.specs.Apart.{Slot, resting, ClearFrom, Apart}
 use Rattle.apart.specs.Lapsing.{noted}
 use Rattle.apart.specs.Silent.{ready_each, is_due}
-use Rattle.ident.specs.declared.Key.{Key as Given}
 use Rattle.planning.specs.declared.expiring.Overdue.{Overdue}
 
 -- one owner whose time is over: it fails, and its parents are announced for it
@@ -60,16 +59,6 @@ pub record DueNext (b : List ℕ) (now x : ℕ) (k : Key) (n : ℕ) : Type 0 whe
   pub from : x ≤ place k
   pub small : k.hash < top
   pub positive : 1 ≤ n
-
--- where the keys behind k begin; all keys, where there is none
-abbrev pub behind : rust.Option Given → ℕ
-behind rust.None = 0
-behind (rust.Some k) = place (key_num k) + 1
-
--- where the keys from the place x on begin among the rows
-pub record BeginsAt (b : List ℕ) (x from : ℕ) : Type 0 where
-  pub few : from ≤ rows_in b
-  pub bound : (st : State) → Sound st → Writes b st → Bound (row_numbers (rows_of st.table)) x from
 
 -- the first that is due at the place x or later, if there is one
 pub record NextDue (b : List ℕ) (now x : ℕ) (o : rust.Option Overdue) : Type 0 where

@@ -1,6 +1,7 @@
 -- What the contracts of a plan say.
 use Rattle.std.specs.Prelude.{ℕ, ◌*◌, ◌≤◌, ◌≡◌, List, length, take, drop}
-use Rattle.std.proofs.Math.Option.{Option, none}
+use Rattle.std.specs.Prelude as rust
+use Rattle.std.proofs.Math.Option.{Option, none, some}
 use Rattle.ident.specs.Number.{Key}
 use Rattle.places.specs.Places.{Place, list_most}
 use Rattle.machine.specs.Limits.{max_places}
@@ -18,6 +19,12 @@ use Rattle.selecting.specs.declared.Scan.{Scan}
 use Rattle.planning.specs.declared.replying.Reply.{Reply}
 use Rattle.planning.specs.declared.plan.Planned.{Planned}
 use Rattle.selecting.specs.Selecting.{Marks, Scanning}
+use Rattle.selecting.specs.Phasing.{given_keys}
+
+-- what a plan is asked for: the keys that given bytes hold, or all
+abbrev pub asked_in : {A : Type 0} → (A → List ℕ) → rust.Option A → Option (List Key)
+asked_in f rust.None = none
+asked_in f (rust.Some g) = some (given_keys (f g))
 
 -- nothing is selected yet
 pub record Fresh (v : Scan) : Type 0 where

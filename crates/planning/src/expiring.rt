@@ -4,7 +4,7 @@ ghost use Rattle.store.specs.Shown.{rows_in, Kept};
 ghost use Rattle.requests.specs.Changes.{Makes};
 ghost use Rattle.apart.specs.Apart.{Rested};
 ghost use Rattle.apart.specs.Silent.{Placeless, silenced};
-ghost use Rattle.planning.specs.Expiring.{SeekDue, behind, BeginsAt, NextDue, MadeReady, ExpiresAll};
+ghost use Rattle.planning.specs.Expiring.{SeekDue, behind, NextDue, MadeReady, ExpiresAll};
 
 use ident::connection::Connection;
 
@@ -29,23 +29,12 @@ fn seek_due(s: &[u8], clock: u64, from: usize) -> Option<regions::Row>
     None
 }
 
-// Where the rows of the keys after `last` begin, or those of all keys.
-fn rows_behind(s: &[u8], last: Option<ident::Key>) -> usize
-    requires { Kept s.now }
-    ensures { BeginsAt s.now (behind last) result }
-{
-    match last {
-        Some(k) => store::rows::seek_row(s, requests::key_words(k), true),
-        None => 0,
-    }
-}
-
 // The first owner that is due at the keys after `last`, or at all keys.
 fn next_due(s: &[u8], clock: u64, last: Option<ident::Key>) -> Option<Overdue>
     requires { Kept s.now }
     ensures { NextDue s.now clock (behind last) result }
 {
-    let r = seek_due(s, clock, rows_behind(s, last))?;
+    let r = seek_due(s, clock, sweeping::batch::after_cursor(s, last))?;
     Some(Overdue {
         key: announcing::evict::key_of(r),
         connection: r.conn,
@@ -58,6 +47,7 @@ fn ready_due(s: &mut [u8], clock: u64)
     ensures { MadeReady s.old s.new clock }
 {
     let mut last = None;
+    // no iterator: each turn searches a store that the one before it changed
     while let Some(due) = next_due(s, clock, last) {
         requests::ready_all(s, due.key, clock);
         requests::ready_all(s, ident::same_hash_other_kind(due.key), clock);
@@ -85,6 +75,7 @@ fn expire_each(s: &mut [u8], m: usize, first: &mut [u8], c: usize, clock: u64) -
         noted: 0,
         spent: false,
     };
+    // no iterator: each turn searches a store that the one before it changed
     while let Some(due) = next_due(&s[0..m], clock, last) {
         let owner = Connection {
             number: due.connection,

@@ -1,4 +1,6 @@
-// The first phase of a plan's scan: the parents that expiring kept, place by place, as they are noted.
+// The first phase of a plan's scan: the parents that expiring kept, place by place, as they are noted. Each level hands the store, the clock, the numbers and the
+// scan down to `selecting::consider` beside what it chooses by, which differs: a struct of the four would hold two lends, and be taken apart at each level.
+// m is where the store's bytes of rows end (`apart`), first the bytes of the first place, i a place and e how many of them have notes: fewer than `first` and s have.
 ghost use Rattle.std.specs.Prelude.{◌≡◌, [], ◌+◌, ◌-◌, ◌*◌, ◌≤◌, ◌<◌, length, take};
 ghost use Rattle.words.specs.Words.{words};
 ghost use Rattle.places.specs.Places.{list_most};
@@ -48,18 +50,17 @@ fn consider_place(
     clock: Clock,
     slot: &[u8; SLOT],
     c: usize,
-    low: u64,
-    high: u64,
+    note: apart::slots::Note,
     picks: &mut [usize],
     v: selecting::Scan,
 ) -> selecting::Scan
     requires { Kept s.old × (max_request_checks < length picks.old) × Roomy v × (c ≤ list_most) × (v.considered + list_most ≤ half) }
-    ensures { Scans s.old s.new picks.old picks.new clock.time (λ st. picked_in (hashes_at (words slot.now) 0 c) low high)
+    ensures { Scans s.old s.new picks.old picks.new clock.time (λ st. picked_in (hashes_at (words slot.now) 0 c) note.low note.high)
         (λ st. []) v result list_most }
 {
     let e = apart::noting::first_half(c);
-    let x = consider_bits(s, clock, slot, 0, e, low, picks, v);
-    consider_bits(s, clock, slot, e, c, high, picks, x)
+    let x = consider_bits(s, clock, slot, 0, e, note.low, picks, v);
+    consider_bits(s, clock, slot, e, c, note.high, picks, x)
 }
 
 // Considers those of the parents of the i-th place that are noted.
@@ -75,16 +76,16 @@ fn consider_noted(
     requires { Room s.old first.now m (i + 1) × Kept (take m s.old) × (max_request_checks < length picks.old) × Roomy v × (v.considered + list_most ≤ half) }
     ensures { PlaceScans s.old s.new first.now m i picks.old picks.new clock.time v result }
 {
-    let x = apart::slots::note_at(s, m, first, i);
-    let low = x.low;
-    let high = x.high;
+    let note = apart::slots::note_at(s, m, first, i);
+    let low = note.low;
+    let high = note.high;
     if (low == 0) & (high == 0) {
         return v;
     }
     let mut slot = apart::slot_room();
     apart::slots::load(s, m, first, i, &mut slot);
     let c = apart::noting::parents_in(&slot);
-    consider_place(&mut s[0..m], clock, &slot, c, low, high, picks, v)
+    consider_place(&mut s[0..m], clock, &slot, c, note, picks, v)
 }
 
 // Considers the parents that are noted of the first e places.

@@ -1,13 +1,11 @@
 // plan on the bytes of a sound store (document 01, "plan"): the owners that are due expire, the parents kept are considered, then the keys
 // asked for. For the length of these the package places are set apart: all but expiry concerns rows alone. Then the rows tell when to look again.
-ghost use Rattle.std.proofs.Math.Option.{none, some};
 ghost use Rattle.std.specs.Prelude.{min, ◌+◌, ◌*◌, ◌≤◌, ◌<◌, length};
 ghost use Rattle.machine.specs.Call.{entry_bytes};
 ghost use Rattle.machine.specs.Limits.{max_request_checks};
 ghost use Rattle.store.specs.Shown.{limit_in, Kept};
 ghost use Rattle.apart.specs.Apart.{Rested};
-ghost use Rattle.selecting.specs.Phasing.{given_keys};
-ghost use Rattle.planning.specs.Replying.{Begins, SelectsOf, PlansOf};
+ghost use Rattle.planning.specs.Replying.{asked_in, Begins, SelectsOf, PlansOf};
 
 use crate::{expiring, kept, replying};
 use machine::clock::Clock;
@@ -39,10 +37,10 @@ fn begin(
     w
 }
 
-// Expiry and both phases, over all keys after the ready cursor and round to it; the ready cursor becomes the last key considered.
-fn select_round(s: &mut [u8], clock: Clock, out: &mut [u8]) -> replying::Reply
+// Expiry and both phases, over the keys asked for: those that given bytes hold, or all after the ready cursor and round to it.
+fn select(s: &mut [u8], clock: Clock, asked: Option<&[u8]>, out: &mut [u8]) -> replying::Reply
     requires { Kept s.old × (entry_bytes * min (max_request_checks + 1) (limit_in s.old) ≤ length out.old) }
-    ensures { SelectsOf s.old s.new out.old out.new clock.time none result }
+    ensures { SelectsOf s.old s.new out.old out.new clock.time (asked_in (λ g. g.now) asked.entry) result }
 {
     let c = store::head::held_places(s);
     let m = apart::bare_bytes(s);
@@ -50,46 +48,17 @@ fn select_round(s: &mut [u8], clock: Clock, out: &mut [u8]) -> replying::Reply
     apart::set_apart(s, m, &mut first);
     let mut picks = replying::numbers();
     let v = begin(s, m, &mut first, c, clock, &mut picks);
-    let r = replying::ask_round(&mut s[0..m], clock, &mut picks, v, out);
+    let r = replying::ask(&mut s[0..m], clock, asked, &mut picks, v, out);
     apart::put_back(s, m, &first, c);
     r
 }
 
-// The same over the keys that the bytes hold; the ready cursor stays.
-fn select_given(s: &mut [u8], clock: Clock, given: &[u8], out: &mut [u8]) -> replying::Reply
+// Plans over the keys that given bytes hold, and the ready cursor stays; or over all keys after it and round to it, and it becomes the last key considered.
+pub fn plan(s: &mut [u8], clock: Clock, asked: Option<&[u8]>, out: &mut [u8]) -> Planned
     requires { Kept s.old × (entry_bytes * min (max_request_checks + 1) (limit_in s.old) ≤ length out.old) }
-    ensures { SelectsOf s.old s.new out.old out.new clock.time (some (given_keys given.now)) result }
+    ensures { PlansOf s.old s.new out.old out.new clock.time (asked_in (λ g. g.now) asked.entry) result }
 {
-    let c = store::head::held_places(s);
-    let m = apart::bare_bytes(s);
-    let mut first = apart::slot_room();
-    apart::set_apart(s, m, &mut first);
-    let mut picks = replying::numbers();
-    let v = begin(s, m, &mut first, c, clock, &mut picks);
-    let r = replying::ask_given(&mut s[0..m], clock, given, &mut picks, v, out);
-    apart::put_back(s, m, &first, c);
-    r
-}
-
-// Plans over all keys after the ready cursor and round to it; the ready cursor becomes the last key considered.
-pub fn plan_round(s: &mut [u8], clock: Clock, out: &mut [u8]) -> Planned
-    requires { Kept s.old × (entry_bytes * min (max_request_checks + 1) (limit_in s.old) ≤ length out.old) }
-    ensures { PlansOf s.old s.new out.old out.new clock.time none result }
-{
-    let r = select_round(s, clock, out);
-    Planned {
-        count: r.count,
-        considered: r.considered,
-        next: looking::next_look(s, clock.time),
-    }
-}
-
-// Plans over the keys that the bytes hold; the ready cursor stays.
-pub fn plan_given(s: &mut [u8], clock: Clock, given: &[u8], out: &mut [u8]) -> Planned
-    requires { Kept s.old × (entry_bytes * min (max_request_checks + 1) (limit_in s.old) ≤ length out.old) }
-    ensures { PlansOf s.old s.new out.old out.new clock.time (some (given_keys given.now)) result }
-{
-    let r = select_given(s, clock, given, out);
+    let r = select(s, clock, asked, out);
     Planned {
         count: r.count,
         considered: r.considered,

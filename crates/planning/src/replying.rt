@@ -6,7 +6,7 @@ ghost use Rattle.machine.specs.Limits.{max_request_checks};
 ghost use Rattle.store.specs.Shown.{limit_in};
 ghost use Rattle.selecting.specs.Selecting.{Marked};
 ghost use Rattle.selecting.specs.Phasing.{given_keys};
-ghost use Rattle.planning.specs.Replying.{Fresh, Closed, Begun, most_kept, AsksOf};
+ghost use Rattle.planning.specs.Replying.{asked_in, Fresh, Closed, Begun, most_kept, AsksOf};
 
 use machine::clock::Clock;
 
@@ -74,7 +74,7 @@ fn finish(s: &mut [u8], picks: &[usize], out: &mut [u8])
 }
 
 // Considers all keys after the ready cursor and round to it, after the scan v; the ready cursor becomes the last key considered.
-pub fn ask_round(
+fn ask_round(
     s: &mut [u8],
     clock: Clock,
     picks: &mut [usize],
@@ -95,7 +95,7 @@ pub fn ask_round(
 }
 
 // Considers the keys that the bytes hold, after the scan v; the ready cursor stays.
-pub fn ask_given(
+fn ask_given(
     s: &mut [u8],
     clock: Clock,
     given: &[u8],
@@ -112,5 +112,24 @@ pub fn ask_given(
     Reply {
         count: w.chosen,
         considered: w.considered,
+    }
+}
+
+// Considers the keys asked for after the scan v: those that given bytes hold, or all after the ready cursor and round to it.
+pub fn ask(
+    s: &mut [u8],
+    clock: Clock,
+    asked: Option<&[u8]>,
+    picks: &mut [usize],
+    v: selecting::Scan,
+    out: &mut [u8],
+) -> Reply
+    requires { Begun clock.time s.old picks.old v × (max_request_checks < length picks.old)
+        × (entry_bytes * min (max_request_checks + 1) (limit_in s.old) ≤ length out.old) × (v.considered ≤ most_kept) }
+    ensures { AsksOf s.old s.new picks.old out.old out.new clock.time (asked_in (λ g. g.now) asked.entry) v result }
+{
+    match asked {
+        Some(given) => ask_given(s, clock, given, picks, v, out),
+        None => ask_round(s, clock, picks, v, out),
     }
 }

@@ -1,17 +1,18 @@
 -- One connection's part of a list of entries, by two searches.
 use Prim.Native.Nat.{ℕ, zero, suc, ◌+◌, ◌-◌, ◌*◌, ◌/◌, ◌≤◌, ◌<◌}
 use mathlib.Core.Path.{◌≡◌, refl, sym, ap, ◌∙◌}
-use mathlib.Core.Bool.{true, false}
-use mathlib.Core.List.{List, [], ◌∷◌, map}
+use mathlib.Core.Logic.{inl, inr}
+use mathlib.Core.List.{List, [], ◌∷◌}
 use native.Mathlib.Omega.{arith}
-use lib.Dec.{leb, ltb}
+use lib.Dec.{ltb}
 use lib.ListN.{length, take, drop, get_or}
-use borrow.Author.Tests.{eq-eqb, ne_eqb}
+use borrow.Author.Tests.{eq-eqb, ne_eqb, ltb-true, ltb-false}
 use Rattle.words.specs.Words.{words}
-use Rattle.regions.specs.Order.{Sorted, Bound, Sought, one}
+use Rattle.regions.specs.Order.{Bound, Sought}
 use Rattle.machine.specs.State.{Entry}
 use Rattle.machine.specs.Claim.{part_of}
 use Rattle.machine.specs.Call.{entry_bytes}
+use Rattle.machine.proofs.Tests.{test}
 use Rattle.claiming.specs.Claiming.{entry_from, entries_from, entries_in}
 use Rattle.public_plans.specs.Parts.{connections_in, PartIs}
 use Rattle.public_plans.proofs.Entered.{length-entries}
@@ -76,8 +77,8 @@ only_part n (x ∷ l) zero zero v =
     }))
 
 -- what two searches find
-module _ (n : ℕ) (l : List Entry) {a b : ℕ} (x : Sought (connections_in l) (length l) (n + one false) a) (y : Sought (connections_in l) (length l) (n + one true) b) where
-  found : a ≤ b → Bound (connections_in l) (n + 0) a → Bound (connections_in l) (n + 1) b → Only n l a (b - a)
+module _ (n : ℕ) (l : List Entry) {a b : ℕ} (x : Sought (connections_in l) (length l) n a) (y : Sought (connections_in l) (length l) (n + 1) b) where
+  found : a ≤ b → Bound (connections_in l) n a → Bound (connections_in l) (n + 1) b → Only n l a (b - a)
   found le p q =
       let long = length-connections l in
       record {
@@ -87,12 +88,18 @@ module _ (n : ℕ) (l : List Entry) {a b : ℕ} (x : Sought (connections_in l) (
         after = λ k h h' f. omega (arith, q.above k (omega arith) (omega arith));
       }
 
-  pub in_order : a ≤ b → PartIs n l a (b - a)
+  in_order : a ≤ b → PartIs n l a (b - a)
   in_order le = record { inside = omega (arith, y.most); arranged = λ s. only_part n l a (b - a) (found le (x.bound s) (y.bound s)) }
 
   -- of an arranged list the second search does not end before the first
-  crossed : b < a → Bound (connections_in l) (n + 0) a → Bound (connections_in l) (n + 1) b → ⊥
+  crossed : b < a → Bound (connections_in l) n a → Bound (connections_in l) (n + 1) b → ⊥
   crossed h p q = omega (arith, length-connections l, p.most, p.below b h, q.above b (omega arith) (omega (arith, h, p.most)))
 
-  pub out_of_order : b < a → PartIs n l a 0
+  out_of_order : b < a → PartIs n l a 0
   out_of_order h = record { inside = omega (arith, x.most); arranged = λ s. absurd (crossed h (x.bound s) (y.bound s)) }
+
+  pub between : PartIs n l a (b - a)
+  between = elim (test (ltb b a)) [
+    | inl t ↦ let e : b - a ≡ 0 = omega (arith, ltb-true b a t) in rw e (out_of_order (ltb-true b a t))
+    | inr t ↦ in_order (ltb-false b a t)
+  ]

@@ -1,15 +1,14 @@
 // The public calls for Sending: arrange, and part, which takes no store (document 01, "Sending").
-ghost use Rattle.std.specs.Prelude.{◌≡◌, ◌+◌, ltb, length};
+ghost use Rattle.std.specs.Prelude.{◌≡◌, ◌+◌, ◌*◌, ◌≤◌, leb, ltb, length, get_or};
 ghost use Rattle.words.specs.Words.{words};
-ghost use Rattle.regions.specs.Order.{Sought, one};
-ghost use Rattle.machine.specs.Call.{On, Arrange};
+ghost use Rattle.machine.specs.Call.{On, Arrange, entry_bytes};
 ghost use Rattle.claiming.specs.Claiming.{entries_in};
 ghost use Rattle.outcome.specs.Outcome.{LeavesWith};
 ghost use Rattle.public_plans.specs.Entries.{entries_of};
-ghost use Rattle.public_plans.specs.Parts.{connections_in, PartIs};
+ghost use Rattle.public_plans.specs.Parts.{PartIs};
 
 use super::on_sound;
-use claiming::entries::ENTRY;
+use claiming::entries::{CONNECTION, ENTRY};
 use outcome::{Refusal, refusals};
 
 // What a claim has taken, given in 112 bytes an entry, stands in the answer by ascending connection, then claim order. A t item of a marked request turns v for a
@@ -24,39 +23,6 @@ pub fn arrange(s: &[u8], witnesses: &[u8], taken: &[u8], answer: &mut [u8]) -> R
 
 // ---- one connection's requests
 
-// Words of an entry, and where its connection stands among them.
-const CONNECTION: usize = 5;
-
-// Whether c stands before the connection; with `after`, also whether it is the same.
-fn falls_short(c: u64, connection: u64, after: bool) -> bool
-    ensures { result ≡ ltb c (connection + one after) }
-{
-    if after {
-        c <= connection
-    } else {
-        c < connection
-    }
-}
-
-// The first entry that does not stand before those of the connection; with `after`, the first that stands after them. Or how many entries there are.
-// A binary search by hand: the list is lent as bytes, and `partition_point` takes a slice of entries.
-fn seek(list: &[u8], connection: u64, after: bool) -> usize
-    ensures { Sought (connections_in (entries_in list.now)) (length (entries_in list.now)) (connection + one after) result }
-{
-    let mut lo = 0;
-    let mut hi = claiming::entries::entries(list);
-    while lo < hi {
-        let mid = lo + (hi - lo) / 2;
-        let c = words::get(list, mid * ENTRY + CONNECTION);
-        if falls_short(c, connection, after) {
-            lo = mid + 1;
-        } else {
-            hi = mid;
-        }
-    }
-    lo
-}
-
 // A part of a list of entries: so many, from the first on.
 #[derive(Clone, Copy)]
 pub struct Range {
@@ -68,11 +34,23 @@ pub struct Range {
 pub fn part(list: &[u8], connection: u64) -> Range
     ensures { PartIs connection (entries_in list.now) result.first result.count }
 {
-    let first = seek(list, connection, false);
-    let end = seek(list, connection, true);
-    if end < first {
-        return Range { first, count: 0 };
+    let n = claiming::entries::entries(list);
+    let first = regions::lower_bound(
+        n,
+        |i| -> bool
+            requires { entry_bytes * (i + 1) ≤ length list.now }
+            ensures { result ≡ ltb (get_or (words list.entry.now) (i * 14 + 5) 0) connection }
+        { words::get(list, i * ENTRY + CONNECTION) < connection },
+    );
+    let end = regions::lower_bound(
+        n,
+        |i| -> bool
+            requires { entry_bytes * (i + 1) ≤ length list.now }
+            ensures { result ≡ leb (get_or (words list.entry.now) (i * 14 + 5) 0) connection }
+        { words::get(list, i * ENTRY + CONNECTION) <= connection },
+    );
+    Range {
+        first,
+        count: end.saturating_sub(first),
     }
-    let count = end - first;
-    Range { first, count }
 }

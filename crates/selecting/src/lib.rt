@@ -1,6 +1,9 @@
 // The scan of a plan (document 01, "plan"). For its length what is selected owns its request in the store, so that "not yet selected by
 // this plan" and "counting this plan's" are questions to the store. Rows do not move meanwhile: a selection is remembered by the number
 // of its row, and its entry is written once, when the order is known.
+//
+// The numbers stand in memory that a caller lends (picks; there is no heap), as many as the scan's `chosen` says. They are no struct: with a lend in it, each contract
+// would have to say that it is the same lend. What one phase's scans have room for (`Roomy`) is a clause and no ghost field, since `consider` takes any scan.
 #![tactic(auto)]
 
 ghost use Rattle.std.specs.Prelude.{◌+◌, ◌≤◌, ◌<◌, length};
@@ -17,8 +20,8 @@ pub mod near;
 pub mod ordering;
 pub mod phase;
 
-// How far a scan has come: how many are selected, how many keys were considered, the last of them, and
-// whether the phase has stopped.
+// How far a scan has come: how many are selected, how many keys were considered, the last of them, and whether the phase has stopped. (`full` is no flag of another
+// field: a phase begins with it down, however many are selected, and its parts hand it on. A Result would hold the same scan in both its arms.)
 #[derive(Clone, Copy)]
 pub struct Scan {
     pub chosen: usize,

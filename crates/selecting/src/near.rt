@@ -1,4 +1,5 @@
 // Searches that begin at a guess: a walk over the rows in their order finds each hash near the last one. The guess is tested, not trusted.
+// n rows stand in a region, whose slice goes on to its capacity.
 ghost use Rattle.std.specs.Prelude.{◌+◌, ◌*◌, ◌≤◌, ◌<◌, length};
 ghost use Rattle.ident.specs.Words.{hash_num};
 ghost use Rattle.words.specs.Words.{words, recs};
@@ -36,8 +37,9 @@ fn ahead(wide: usize, step: usize) -> usize
     if step < wide { step } else { wide / 2 }
 }
 
-// The first of n rows whose key does not come before k; with `after`, the first whose key comes after it. Or n. From the guess on the
-// steps double; then what is left is halved.
+// The first of n rows whose key does not come before k; with `after`, the first whose key comes after it. Or n. By hand, since
+// it begins at a guess: from there on the steps double, then what is left is halved, so that a walk pays for the rows between two hashes and not for all of them, as
+// `regions::lower_bound` would.
 fn seek_in(s: &[u8], n: usize, k: regions::Key, after: bool, guess: usize) -> usize
     requires { 8 * (row_size * n) ≤ length s.now }
     ensures { Sought (recs row_size row_key n (words s.now)) n (key_number k + one after) result }

@@ -9,7 +9,7 @@ use borrow.Author.Tests.{ltb-true, ltb-false, leb-true, leb-false, eq-eqb, ne_eq
 use lib.Dec.{ltb, leb}
 use lib.ListN.{length, get_or, take, drop}
 use Rattle.std.specs.List.Sorted.{IsNonDecreasingBy, IsPartitionPoint}
-use Rattle.regions.specs.Order.{Sorted, Bound, Sought, one}
+use Rattle.regions.specs.Order.{Sorted, Bound, Sought}
 use Rattle.machine.specs.State as machine
 use Rattle.machine.specs.Claim.{part_of}
 use Rattle.machine.proofs.Tests.{test}
@@ -97,7 +97,7 @@ only_part n (x ∷ l) zero zero v =
     }))
 
 -- what two searches find in an arranged list
-module _ (n : ℕ) (l : List Entry) {a b : ℕ} (p : Bound (connections_of l) (n + 0) a) (q : Bound (connections_of l) (n + 1) b) where
+module _ (n : ℕ) (l : List Entry) {a b : ℕ} (p : Bound (connections_of l) n a) (q : Bound (connections_of l) (n + 1) b) where
   in_order : a ≤ b
   in_order = elim (test (ltb b a)) [
     | inl t ↦ absurd (omega (arith, ltb-true b a t, p.below b (ltb-true b a t), q.above b (omega arith) (omega (arith, ltb-true b a t, p.most))))
@@ -116,7 +116,7 @@ module _ (n : ℕ) (l : List Entry) {a b : ℕ} (p : Bound (connections_of l) (n
         after = λ k h h' f. omega (arith, q.above k (omega arith) (omega arith));
       })
 
-pub parted : (n : ℕ) (l : List Entry) (a b : ℕ) → Sought (connections_of l) (length l) (n + one false) a → Sought (connections_of l) (length l) (n + one true) b
+pub parted : (n : ℕ) (l : List Entry) (a b : ℕ) → Sought (connections_of l) (length l) n a → Sought (connections_of l) (length l) (n + 1) b
     → Parted n l (take (max b a - a) (drop a l))
 parted n l a b x y = record {
   first = a;

@@ -10,7 +10,8 @@ ghost use Rattle.requests.specs.Changes.{Tells};
 ghost use Rattle.claiming.specs.Claiming.{entry_of};
 ghost use Rattle.sending.specs.Turned.{is_transaction, Holds, Turned, PutTurned};
 
-// Whether a connection is a witness connection. It is remembered from one entry to the next, since those of a connection are sent together.
+// Whether a connection is a witness connection: `listed` is the answer for it, and no flag that says whether there is one. It is remembered from one entry to the
+// next, since those of a connection are sent together.
 #[derive(Clone, Copy)]
 pub struct Known {
     pub connection: u64,
@@ -63,7 +64,7 @@ fn look_up(list: &[u8], known: Known, connection: u64) -> Known
 fn is_transaction(k: ident::ItemKind) -> bool
     ensures { result ≡ is_transaction k }
 {
-    matches!(k, ident::ItemKind::Transaction)
+    k == ident::ItemKind::Transaction
 }
 
 // The entry as it is sent. Only a t item is looked up: any other stays what it is.

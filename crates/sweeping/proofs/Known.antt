@@ -5,7 +5,7 @@ use mathlib.Core.List.{List, ◌++◌}
 use mathlib.Core.Option.{Option, none, some}
 use native.Mathlib.Omega.{arith}
 use Rattle.ident.specs.declared.Key.{Key as KeyRead}
-use Rattle.ident.specs.Number.{Key}
+use Rattle.ident.specs.Number.{Key, place}
 use Rattle.ident.specs.Words.{key_num}
 use Rattle.words.specs.Words.{words}
 use Rattle.regions.specs.declared.Key.{Key as RowKey}
@@ -21,7 +21,7 @@ use Rattle.requests.proofs.Keeping.{rows_in_order, to_at}
 use Rattle.requests.specs.Changes.{KeyWords}
 use Rattle.cursors.specs.InWords.{known_at, cursor_in}
 use Rattle.cursors.proofs.InState.{known_read}
-use Rattle.sweeping.specs.Batches.{keys_over, AfterCursor, AfterKnown}
+use Rattle.sweeping.specs.Batches.{keys_over, BeginsAt, AfterCursor, AfterKnown}
 use Rattle.sweeping.proofs.Rounds.{rounds_none, rounds_some}
 
 -- the rows of a state, of which there are n, from the row r on and round to it
@@ -49,4 +49,21 @@ after-known {b} {c} {r} e a = record {
   round_is = λ st s w.
       let k : c ≡ st.known_cursor = e ∙ known_read st w in
       subst (λ (o : Option Key). From (rows_in b) r st o) k (a.round_is (subst CursorFits (sym k) s.known) st s w);
+}
+
+-- ---- where the keys behind it begin
+
+pub begins_none : (b : List ℕ) → BeginsAt b 0 0
+begins_none b = record {
+  few = omega arith;
+  bound = λ st s o. record { most = omega arith; below = λ j h. absurd (omega arith); above = λ j h l. omega arith };
+}
+
+pub begins_some : {b : List ℕ} {k : KeyRead} {key : RowKey} {from : ℕ} → KeyWords k key
+    → Seek b (λ f. row_numbers f.rows) (rows_in b) (key_number key + 1) from → BeginsAt b (place (key_num k) + 1) from
+begins_some {k = k} {key} w q = record {
+  few = q.most;
+  bound = λ st s o.
+      let e : key_number key + 1 ≡ place (key_num k) + 1 = omega (arith, w.number) in
+      rw e at (q.bound (flat_of st) o (rows_in_order st s));
 }

@@ -1,9 +1,13 @@
 -- What the contracts of the walk over the keys say.
 use Rattle.std.specs.Prelude.{ℕ, ◌+◌, ◌*◌, ◌≤◌, ◌≡◌, Bool, true, not, List, [], ◌∷◌, ◌++◌, eqb, length, take}
+use Rattle.std.specs.Prelude as rust
 use Rattle.std.proofs.Math.Option.{Option, some}
+use Rattle.ident.specs.declared.Key.{Key as Given}
 use Rattle.ident.specs.Number.{Key, place}
+use Rattle.ident.specs.Words.{key_num}
 use Rattle.words.specs.Words.{splice}
 use Rattle.regions.specs.declared.Row.{Row}
+use Rattle.regions.specs.Order.{Bound}
 use Rattle.machine.specs.State.{State}
 use Rattle.machine.specs.Table.{keys}
 use Rattle.machine.specs.Sound.{CursorFits, Sound}
@@ -13,7 +17,7 @@ use Rattle.machine.specs.Step.{key_answer, keys_answer, written}
 use Rattle.store.specs.Flat.{Flat, rows_of}
 use Rattle.store.specs.Gather.{key_at, gather}
 use Rattle.store.specs.Image.{Shows, Writes}
-use Rattle.store.specs.Shown.{rows_in}
+use Rattle.store.specs.Shown.{rows_in, row_numbers}
 use Rattle.announcing.specs.Evicts.{part}
 use Rattle.cursors.specs.InWords.{Stands}
 use Rattle.sweeping.specs.declared.batch.Batch.{Batch}
@@ -51,6 +55,16 @@ pub record Walks (b : List ℕ) (from to most : ℕ) (u u' : List ℕ) (v w : Ba
   pub few : w.count ≤ most
   pub near : w.count + from ≤ v.count + to
   pub hands : (f : Flat) (all rest : List Key) (u₀ : List ℕ) → Shows b f → Handing most all u₀ u v (keys_over from to f.rows ++ rest) → Handing most all u₀ u' w rest
+
+-- where the keys behind k begin; all keys, where there is none
+abbrev pub behind : rust.Option Given → ℕ
+behind rust.None = 0
+behind (rust.Some k) = place (key_num k) + 1
+
+-- where the keys from the place x on begin among the rows
+pub record BeginsAt (b : List ℕ) (x from : ℕ) : Type 0 where
+  pub few : from ≤ rows_in b
+  pub bound : (st : State) → Sound st → Writes b st → Bound (row_numbers (rows_of st.table)) x from
 
 -- the rows from r on, and then those before r, have the keys after the cursor k, and then those round to it
 pub record AfterCursor (b : List ℕ) (k : Option Key) (r : ℕ) : Type 0 where

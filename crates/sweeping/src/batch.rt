@@ -10,7 +10,7 @@ ghost use Rattle.store.specs.Image.{Shows};
 ghost use Rattle.store.specs.Shown.{limit_in, rows_in, Shown, Kept};
 ghost use Rattle.announcing.specs.Evicts.{part};
 ghost use Rattle.cursors.specs.InWords.{Stands};
-ghost use Rattle.sweeping.specs.Batches.{last_row, Put, Walks, AfterCursor, AfterKnown};
+ghost use Rattle.sweeping.specs.Batches.{last_row, Put, Walks, behind, BeginsAt, AfterCursor, AfterKnown};
 
 // How many keys are handed out, and the last of them.
 #[derive(Clone, Copy)]
@@ -54,7 +54,7 @@ fn hand(out: &mut [u8], v: Batch, r: regions::Row) -> Batch
     }
 }
 
-// Hands out the keys of the rows from .. to, behind those of v, as long as there are fewer than `most`.
+// Hands out the keys of the rows from .. to, behind those of v, as long as there are fewer than `most`. (A limit of the machine, and no length of `out`.)
 pub fn keys_in(s: &[u8], from: usize, to: usize, most: usize, out: &mut [u8], v: Batch) -> Batch
     requires { Shown s.now × (from ≤ to) × (to ≤ rows_in s.now) × (v.count ≤ most) × (v.count + to ≤ limit_in s.now + from) × (key_bytes * min most (limit_in s.now) ≤ length out.old) }
     ensures { Walks s.now from to most out.old out.new v result }
@@ -77,7 +77,7 @@ pub fn keys_in(s: &[u8], from: usize, to: usize, most: usize, out: &mut [u8], v:
 // The first row whose key comes after the cursor c; the first of all, if that is none.
 pub fn after_cursor(s: &[u8], c: Option<ident::Key>) -> usize
     requires { Kept s.now }
-    ensures { AfterCursor s.now (maybe_key_num c) result }
+    ensures { AfterCursor s.now (maybe_key_num c) result × BeginsAt s.now (behind c) result }
 {
     let Some(k) = c else {
         return 0;

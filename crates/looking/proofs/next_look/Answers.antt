@@ -9,7 +9,7 @@ use mathlib.Core.Path.{◌≡◌, refl}
 use mathlib.Core.List.{[]}
 use mathlib.Core.Option.{none}
 use Rattle.machine.specs.Later.{next_look, least_later, times}
-use Rattle.looking.proofs.Looked.{looks_start, looks-row, looked_all}
+use Rattle.looking.proofs.Looked.{looks_start, looked_all}
 use Rattle.looking.proofs.next_look.Goals as goal
 
 start : (now : ℕ) → none ≡ next_look now []
@@ -26,23 +26,13 @@ loop-i-init c = (
       (c.before_rows-v.ensures c.args.clock [] (start c.args.clock)),
 )
 
-pub row_at-r-requires : goal.row_at-r-requires
-row_at-r-requires c = (kept_shown c.requires, omega (arith, c.rows-n.ensures.word))
-
-pub ends_key-ends-requires : goal.ends_key-ends-requires
-ends_key-ends-requires c = (kept_shown c.requires, omega arith, omega (arith, c.rows-n.ensures.word))
+pub turn-v-requires : goal.turn-v-requires
+turn-v-requires c = (kept_shown c.requires, omega arith, omega (arith, c.rows-n.ensures.word))
 
 pub loop-i-preserved : goal.loop-i-preserved
 loop-i-preserved c = (
   omega arith,
-  λ f w.
-      let n = c.rows-n.result in
-      let j = c.loop-i.i in
-      let r = c.row_at-r.result in
-      let e : j - 1 + 1 ≡ j = omega arith in
-      looks-row c.args.clock n f.rows r (j - 1) (omega arith) (omega arith)
-      (omega (arith, c.rows-n.ensures.field f w)) (c.row_at-r.ensures f r w) c.turn-v.result
-      (c.turn-v.ensures (part j n f.rows) (rw e at (c.ends_key-ends.ensures f w)) (c.loop-i.invariant.1 f w)),
+  λ f w. let e : c.loop-i.i - 1 + 1 ≡ c.loop-i.i = omega arith in c.turn-v.ensures f w (rw (← e) at (c.loop-i.invariant.1 f w)),
 )
 
 pub returns : goal.returns

@@ -10,11 +10,9 @@ ghost use Rattle.outcome.specs.Outcome.{LeavesWith};
 ghost use Rattle.public_plans.specs.Entries.{entries_of, planned_of};
 
 use crate::Selection;
+use claiming::entries::ENTRY_BYTES;
 use machine::clock::Clock;
 use outcome::{Refusal, refusals};
-
-// Bytes of an entry in a list and in an answer.
-const ENTRY_BYTES: usize = 112;
 
 // The bytes that an answer may need that has some of a list's entries: the length in entries.
 pub fn list_needs(list: &[u8]) -> usize
@@ -56,7 +54,7 @@ pub fn plan(s: &mut [u8], clock: u64, answer: &mut [u8]) -> Result<Selection, Re
     let needs = plan_needs(s);
     refusals::of_clock_and_buffer(clock, answer.len(), needs)?;
     let n = refusals::need_of(s);
-    let r = planning::plan::plan_round(&mut s[..n], Clock { time: clock }, answer);
+    let r = planning::plan::plan(&mut s[..n], Clock { time: clock }, None, answer);
     Ok(Selection {
         considered: r.considered,
         chosen: r.count as u64,
@@ -76,7 +74,7 @@ pub fn plan_given(
     let needs = plan_needs(s);
     refusals::of_clock_and_buffer(clock, answer.len(), needs)?;
     let n = refusals::need_of(s);
-    let r = planning::plan::plan_given(&mut s[..n], Clock { time: clock }, given, answer);
+    let r = planning::plan::plan(&mut s[..n], Clock { time: clock }, Some(given), answer);
     Ok(Selection {
         considered: r.considered,
         chosen: r.count as u64,

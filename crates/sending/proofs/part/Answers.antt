@@ -3,7 +3,6 @@ use Prim.Native.Nat.{◌+◌}
 use mathlib.Core.Path.{refl}
 use borrow.Author.Rules.{rules}
 use lib.Dec.{ltb, leb}
-use native.Mathlib.Nat.{add-zero}
 use Rattle.std.proofs.lemmas.List.Sorted.{IsPartitionedBy-leb, IsPartitionedBy-ltb, IsPartitionPoint-from_clause}
 use Rattle.claiming.specs.declared.Entry.{Entry}
 use Rattle.sending.proofs.Parting.{at_most, sought, parted}
@@ -18,7 +17,7 @@ returns c =
     let below = λ (e : Entry). ltb e.connection n in
     let within = λ (e : Entry). leb e.connection n in
     rw c.max.ensures (parted n l first.result end.result
-    (sought l (n + 0) first.result below (λ e. rw add-zero refl) first.ensures.bound
+    (sought l n first.result below (λ e. refl) first.ensures.bound
     (λ s. IsPartitionPoint-from_clause below l first.result first.ensures.partitioned (IsPartitionedBy-ltb (λ e. e.connection) l n s) (λ x r f k. search rules)))
     (sought l (n + 1) end.result within (λ e. at_most e.connection n) end.ensures.bound
     (λ s. IsPartitionPoint-from_clause within l end.result end.ensures.partitioned (IsPartitionedBy-leb (λ e. e.connection) l n s) (λ x r f k. search rules))))

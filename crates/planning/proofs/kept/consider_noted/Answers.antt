@@ -6,7 +6,7 @@ use Rattle.planning.proofs.Keepings.{both_zero, place-clear, place-scanned}
 use Rattle.planning.proofs.kept.consider_noted.Goals as goal
 
 pub returns-then-low-high : goal.returns-then-low-high
-returns-then-low-high c = let z = both_zero c.note_at-x.result.low c.note_at-x.result.high c.if-low-high.true in place-clear c.note_at-x.ensures z.0 z.1 c.requires.1 c.requires.3
+returns-then-low-high c = let z = both_zero c.note_at-note.result.low c.note_at-note.result.high c.if-low-high.true in place-clear c.note_at-note.ensures z.0 z.1 c.requires.1 c.requires.3
 
 pub consider_place-requires : goal.consider_place-requires
 consider_place-requires c = (
@@ -18,4 +18,4 @@ consider_place-requires c = (
 )
 
 pub returns : goal.returns
-returns c = place-scanned c.note_at-x.ensures _ _ _ c.load.ensures c.parents_in-c.ensures c.requires.0.front c.consider_place.auto.s refl c.consider_place.ensures
+returns c = place-scanned c.note_at-note.ensures _ _ _ c.load.ensures c.parents_in-c.ensures c.requires.0.front c.consider_place.auto.s refl c.consider_place.ensures

@@ -30,7 +30,7 @@ consider_bits-requires c = let x = c.consider_bits-x.ensures in let h = c.first_
 
 pub returns : goal.returns
 returns c = let h = c.first_half-e.ensures in scans_as (scans_for (λ st.
-    picked_in (hashes_at (words c.args.slot.now) 0 c.args.c) c.args.low c.args.high) (λ st l u w. both_halves (words c.args.slot.now) h c.args.low c.args.high)
+    picked_in (hashes_at (words c.args.slot.now) 0 c.args.c) c.args.note.low c.args.note.high) (λ st l u w. both_halves (words c.args.slot.now) h c.args.note.low c.args.note.high)
     (scans_both c.consider_bits-x.ensures c.consider_bits.ensures)) (λ st. []) list_most (omega (
       arith,
       h.within,

@@ -17,7 +17,7 @@ pub keys_over-x-requires : goal.keys_over-x-requires
 keys_over-x-requires c =
     let e = c.opened.ensures in
     let n = c.rows-n.ensures.word in
-    let f = c.after_cursor-from.ensures.most in (
+    let f = c.after_cursor-from.ensures.0.most in (
       c.requires.0,
       c.requires.1,
       opened-roomy
@@ -32,7 +32,7 @@ pub keys_over-requires : goal.keys_over-requires
 keys_over-requires c =
     let e = ap (λ (u : Scan). u.considered) c.opened.ensures in
     let n = c.rows-n.ensures.word in
-    let f = c.after_cursor-from.ensures.most in
+    let f = c.after_cursor-from.ensures.0.most in
     let w = c.keys_over-x.ensures in
     let long = c.keys_over-x.auto.picks in (
       w.kept,
@@ -45,7 +45,7 @@ keys_over-requires c =
 
 pub returns : goal.returns
 returns c = round_phased _ c.cursor_at-c.ensures
-    c.after_cursor-from.ensures
+    c.after_cursor-from.ensures.0
     c.rows-n.ensures.word
     c.opened.ensures
     c.keys_over-x.ensures c.keys_over.ensures

@@ -7,4 +7,4 @@ pub cursor_at-c-requires : goal.cursor_at-c-requires
 cursor_at-c-requires c = let z = (kept_shown c.requires).sizes in omega arith
 
 pub returns : goal.returns
-returns c = after-known c.cursor_at-c.ensures c.after_cursor.ensures
+returns c = after-known c.cursor_at-c.ensures c.after_cursor.ensures.0

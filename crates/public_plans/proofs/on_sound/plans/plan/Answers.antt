@@ -11,15 +11,15 @@ pub returns-in_err-of_clock_and_buffer : goal.returns-in_err-of_clock_and_buffer
 returns-in_err-of_clock_and_buffer c =
     rw (hands-on _ c.from_residual.ensures.1) (refused (plans _ _ _) c.requires _ (sized _ _ _ _ c.in_err-of_clock_and_buffer.ensures (c.plan_needs-needs.ensures c.requires)))
 
-pub plan_round-r-requires : goal.plan_round-r-requires
-plan_round-r-requires c =
+pub plan-r-requires : goal.plan-r-requires
+plan-r-requires c =
     let w = c.requires in
     let p = passed c.in_ok-of_clock_and_buffer.ensures in
     let e = c.need_of-n.ensures in
     (e.kept, omega (arith, p.room, c.plan_needs-needs.ensures w, front_limit w e))
 
-pub invariant_of-plan_round : goal.invariant_of-plan_round
-invariant_of-plan_round c = record { early = early_clock _ (passed c.in_ok-of_clock_and_buffer.ensures).clocks }
+pub invariant_of-plan : goal.invariant_of-plan
+invariant_of-plan c = record { early = early_clock _ (passed c.in_ok-of_clock_and_buffer.ensures).clocks }
 
 pub returns : goal.returns
 returns c =
@@ -29,4 +29,4 @@ returns c =
     (c.plan_needs-needs.ensures w) in
     plans_done _ none w (omega arith) tt q
     c.need_of-n.ensures (λ i. omega (arith, c.type_inv.s i))
-    c.plan_round-r.ensures
+    c.plan-r.ensures

@@ -13,15 +13,15 @@ pub returns-in_err-of_clock_and_buffer : goal.returns-in_err-of_clock_and_buffer
 returns-in_err-of_clock_and_buffer c =
     rw (hands-on _ c.from_residual.ensures.1) (refused (plans _ _ _) c.requires _ (sized _ _ _ _ c.in_err-of_clock_and_buffer.ensures (c.plan_needs-needs.ensures c.requires)))
 
-pub plan_given-r-requires : goal.plan_given-r-requires
-plan_given-r-requires c =
+pub plan-r-requires : goal.plan-r-requires
+plan-r-requires c =
     let w = c.requires in
     let p = passed c.in_ok-of_clock_and_buffer.ensures in
     let e = c.need_of-n.ensures in
     (e.kept, omega (arith, p.room, c.plan_needs-needs.ensures w, front_limit w e))
 
-pub invariant_of-plan_given : goal.invariant_of-plan_given
-invariant_of-plan_given c = record { early = early_clock _ (passed c.in_ok-of_clock_and_buffer.ensures).clocks }
+pub invariant_of-plan : goal.invariant_of-plan
+invariant_of-plan c = record { early = early_clock _ (passed c.in_ok-of_clock_and_buffer.ensures).clocks }
 
 pub returns : goal.returns
 returns c =
@@ -33,4 +33,4 @@ returns c =
     (given_typed a.given.now
     (λ i. omega (arith, c.type_inv.given i))) q
     c.need_of-n.ensures
-    (λ i. omega (arith, c.type_inv.s i)) c.plan_given-r.ensures
+    (λ i. omega (arith, c.type_inv.s i)) c.plan-r.ensures
