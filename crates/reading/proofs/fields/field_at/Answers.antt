@@ -5,9 +5,6 @@ use Rattle.machine.proofs.Parting.{end_most}
 use Rattle.reading.proofs.Taking.{text_lent}
 use Rattle.reading.proofs.fields.field_at.Goals as goal
 
-pub returns-then-line-e : goal.returns-then-line-e
-returns-then-line-e g c = record { is = λ h. absurd (omega (arith, h, c.if-line-e.true)) }
-
 pub slice_bounds-parse-end : goal.slice_bounds-parse-end
 slice_bounds-parse-end g c = search (rules, end_most 44 c.args.line.now _ (omega arith) c.field_end-end.ensures)
 

