@@ -89,7 +89,8 @@ fn head_fits(s: &[u8]) -> bool
 
 // ---- the regions
 
-// Whether the rows, the connections and the p places at the fronts of their regions are sound, with zeros behind them.
+// Whether the rows, the connections and the p places at the fronts of their regions are sound, with zeros behind them. (Places
+// stay bytes and a number: one is 824 words, which no value holds.)
 fn records_fit(rows: Records<Row>, conns: Records<Conn>, places: &[u8], p: usize) -> bool
     requires { (8 * (place_size * p) ≤ length places.now) × (rows.count ≤ max_announcements) }
     ensures { Decides result (RecordsSound (words rows.entry.bytes.now) rows.entry.count (words conns.entry.bytes.now) conns.entry.count (words places.now) p) }

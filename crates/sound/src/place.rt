@@ -1,4 +1,6 @@
 // The test of the package places: each written out by its words, fit, with its owner among the rows, ascending by hash.
+//
+// A list of hashes is where it starts in the words and its range: its length stands in another word of the place, which is tested first.
 ghost use Rattle.std.specs.Prelude.{◌≡◌, ◌+◌, ◌*◌, ◌≤◌, ◌<◌, length, false};
 ghost use Rattle.words.specs.Words.{words, recs, Decides};
 ghost use Rattle.regions.specs.Rows.{row_size, read_row, quad_number};

@@ -94,7 +94,7 @@ fn seek_entry(conns: Records<Conn>, lo: usize, x: u64) -> usize
     conns.count
 }
 
-// ---- the slots
+// ---- the slots (while they are filled, lent ones that change, with the mask beside them: `Guesses` holds them when they are)
 
 // A connection as it is, or spread in one of two ways: a factor for each of its halves.
 fn spread(x: u64, way: u64) -> u64 {

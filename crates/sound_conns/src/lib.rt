@@ -35,7 +35,7 @@ const MANY_MASK: u64 = 16383;
 
 const FEW_MASK: u64 = 2047;
 
-// Whether the entry c is fit to stand right behind p.
+// Whether the entry c is fit to stand right behind p. (No order or equality: three of its four tests are of c alone.)
 fn entry_fits(p: Conn, c: Conn) -> bool
     ensures { Decides result (EntryStep p c) }
 {

@@ -1,4 +1,5 @@
-// Entries that each stand for one row, counted into a table at their front. (Of entries in order each is the table's last, or comes behind it.)
+// Entries that each stand for one row, counted into a table at their front. (Of entries in order each is the table's last, or comes behind
+// it.) The bytes change, so that the numbers of entries go beside them.
 ghost use Rattle.std.specs.Prelude.{◌+◌, ◌*◌, ◌≤◌, length};
 ghost use Rattle.words.specs.Words.{words};
 ghost use Rattle.regions.specs.Rows.{conn_size};
