@@ -2,14 +2,7 @@ use mathlib.Core.Path.{sym, ◌∙◌}
 use Rattle.ident.specs.Words.{key_num}
 use Rattle.machine.proofs.Table.{lawful_at}
 use Rattle.failing.proofs.PackageInfo.{info-is}
-use Rattle.failing.proofs.Releasing.{owner-is}
 use Rattle.failing.proofs.info_owned.Goals as goal
-
-pub returns-then-eq : goal.returns-then-eq
-returns-then-eq c = λ st s w.
-    let x = c.request_at-r.ensures.is st s w in
-    let l = lawful_at (key_num c.args.k) st.table s.bounded.lawful in
-    rw (sym (info-is l x c.eq.ensures) ∙ c.if-eq.true) (owner-is x c.args.n c.is_owned_by.ensures)
 
 pub returns-else-eq : goal.returns-else-eq
 returns-else-eq c = λ st s w.

@@ -4,8 +4,7 @@ use mathlib.Core.Path.{sym, ◌∙◌}
 use Rattle.ident.specs.Words.{hash_num, key_num}
 use Rattle.ident.proofs.Words.{key-four, hash_below}
 use Rattle.machine.specs.Limits.{word}
-use Rattle.machine.specs.Table.{at}
-use Rattle.failing.proofs.Enqueued.{enqueued-owner, nothing_released, released_kept, released_handed}
+use Rattle.failing.proofs.Enqueued.{nothing_released, released_kept, released_handed}
 use Rattle.failing.proofs.release_package.Goals as goal
 
 pub returns-then-not-enqueued_by : goal.returns-then-not-enqueued_by
@@ -13,14 +12,6 @@ returns-then-not-enqueued_by c = nothing_released (key_num c.from-k.result) (has
     c.args.n.number c.args.clock
     c.args.out.now c.from-k.ensures
     (λ st s w. sym (c.enqueued_by.ensures st s w) ∙ c.if-not-enqueued_by.true)
-
-pub leave_both-requires : goal.leave_both-requires
-leave_both-requires c = (
-  c.requires.0,
-  λ st s w. enqueued-owner c.args.n.number (at (key_num
-      c.from-k.result) st.table) (sym (c.enqueued_by.ensures st s w) ∙
-      c.if-not-enqueued_by.false),
-)
 
 pub announce_behind-requires : goal.announce_behind-requires
 announce_behind-requires c =

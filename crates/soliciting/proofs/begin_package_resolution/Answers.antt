@@ -1,20 +1,13 @@
 -- `soliciting::begin_package_resolution` meets its contract.
 use Rattle.ident.specs.Words.{hash_num}
 use Rattle.lent_lists.specs.Lists.{hashes_in}
-use Rattle.soliciting.proofs.Beginning.{begin-barred, begin-inside, begin_read, begin_other, begin_done}
+use Rattle.soliciting.proofs.Beginning.{begin-barred, begin_read, begin_other, begin_done}
 use Rattle.soliciting.proofs.begin_package_resolution.Goals as goal
 
 pub returns-then-not-owned_at : goal.returns-then-not-owned_at
 returns-then-not-owned_at c =
     begin-barred c.args.n (hash_num c.args.subject.0) (hash_num c.args.combined) (hashes_in c.args.wtxids.now) c.args.clock c.owned_at.ensures
     c.if-not-owned_at.true
-
-pub same_package-requires : goal.same_package-requires
-same_package-requires c = (
-  c.requires,
-  begin-inside c.args.n (hash_num c.args.subject.0) (hash_num c.args.combined) (hashes_in c.args.wtxids.now) c.args.clock
-      c.owned_at.ensures c.if-not-owned_at.false c.in-Ok.ensures c.requires,
-)
 
 pub returns-then-not-same_package : goal.returns-then-not-same_package
 returns-then-not-same_package c =

@@ -8,14 +8,8 @@ use Rattle.ident.specs.Words.{hash_num}
 use Rattle.lent_lists.specs.Lists.{hashes_in}
 use Rattle.machine.specs.Table.{at}
 use Rattle.package_stages.specs.Changes.{wtxids_of, combined_of}
-use Rattle.soliciting.proofs.SamePackage.{compared, other_hash, other_length, other_wtxid, all_same, next_same}
+use Rattle.soliciting.proofs.SamePackage.{compared, other_length, other_wtxid, all_same, next_same}
 use Rattle.soliciting.proofs.same_package.Goals as goal
-
-pub returns-then-not-same_hash : goal.returns-then-not-same_hash
-returns-then-not-same_hash c = λ h small st s w p.
-    let q = at (wtxid h) st.table in
-    other_hash (combined_of q.«package») (hash_num c.args.combined) (wtxids_of q.«package») (hashes_in c.args.wtxids.now)
-    (compared c.same_hash.ensures (c.combined_at-c.ensures h small st s w p) refl c.if-not-same_hash.true)
 
 pub returns-then-hashes-count : goal.returns-then-hashes-count
 returns-then-hashes-count c = λ h small st s w p.

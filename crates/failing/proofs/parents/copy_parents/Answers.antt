@@ -1,7 +1,7 @@
 use Prim.Native.Nat.{◌*◌}
 use native.Mathlib.Omega.{arith}
 use Rattle.ident.specs.Words.{hash_num, hash_bytes}
-use Rattle.failing.proofs.Copying.{copied_none, copied_more, copied_all}
+use Rattle.failing.proofs.Copying.{copied_none, copied_more}
 use Rattle.failing.proofs.parents.copy_parents.Goals as goal
 
 pub loop-j-init : goal.loop-j-init
@@ -12,6 +12,3 @@ loop-j-preserved c = copied_more (hash_num c.parent_at-h.result) (c.loop-j.j * h
     c.loop-j.invariant c.loop-j-test.true
     c.parents-n.ensures.0 c.requires.2
     c.parents-n.ensures.1 c.parent_at-h.ensures (omega arith) c.put_hash.ensures
-
-pub returns : goal.returns
-returns c = (c.parents-n.ensures.0, copied_all c.loop-j.invariant c.loop-j-test.false c.parents-n.ensures.1)

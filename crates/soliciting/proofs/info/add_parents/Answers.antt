@@ -11,7 +11,7 @@ use Rattle.lent_lists.specs.Lists.{hashes_in}
 use Rattle.lent_lists.proofs.Given.{hashes-fit}
 use Rattle.machine.specs.Claim.{elem}
 use Rattle.machine.proofs.Fail.{FewHashes}
-use Rattle.soliciting.proofs.Adding.{added_as, added_start, added_done, added_kept, added_repeat, added_more}
+use Rattle.soliciting.proofs.Adding.{added_as, added_start, added_kept, added_repeat, added_more}
 use Rattle.soliciting.proofs.info.add_parents.Goals as goal
 use Rattle.soliciting.proofs.info.add_parents.Goals.{then-not-occurs_before, else-not-occurs_before}
 
@@ -51,9 +51,3 @@ loop-i-preserved c =
       | else-not-occurs_before w ↦
           added_as w.s-is (added_repeat (hash_num h) small hs v few inside _ refl (sym c.occurs_before.ensures ∙ w.if-not-occurs_before.false))
     ]
-
-pub returns : goal.returns
-returns c =
-    let h = c.args.h in
-    added_done (hash_num h) (hash_below h (hash-four h c.well_formed.1.0)) (hashes_in c.args.parents.now) c.loop-i.invariant
-    (omega (arith, c.loop-i.invariant.inside, c.loop-i-test.false, c.hashes-count.ensures))

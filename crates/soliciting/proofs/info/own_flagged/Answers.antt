@@ -1,5 +1,4 @@
 -- `soliciting::info::own_flagged` meets its contract.
-use native.Mathlib.Omega.{arith}
 use Rattle.ident.specs.Words.{hash_num, key_num}
 use Rattle.ident.proofs.Words.{hash-four, hash_below}
 use Rattle.soliciting.proofs.Opening.{owned_kept, owned-place, opened-writes}
