@@ -253,17 +253,14 @@ pub fn conns_fit(rows: Records<Row>, conns: Records<Conn>) -> bool
         };
         return fits_with::<FEW, 2560>(rows, conns, FEW_MASK, all);
     }
-    let mut lo = 0;
     let mut done = 0;
-    // a window at a time: of an item of `step_by` a proof knows that `next` gave it, and not that it is the one before and MANY
-    while lo < conns.count {
+    for lo in (0..conns.count).step_by(MANY) {
         let last = last_of(conns, lo);
         let pass = Pass { lo, done, last };
         if !fits_with::<MANY, 20480>(rows, conns, MANY_MASK, pass) {
             return false;
         }
         done = last;
-        lo += MANY;
     }
     true
 }

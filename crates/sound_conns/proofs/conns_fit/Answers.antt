@@ -84,9 +84,19 @@ loop-lo-preserved c =
     (passed (Window (names a.conns.count v) rs (recs conn_size read_conn a.conns.count v) c.loop-lo.done c.last_of-last.result
     c.loop-lo.lo many) c.fits_with-in-loop-lo.result c.if-not-fits_with.false-raw c.fits_with-in-loop-lo.ensures)
 
-pub returns : goal.returns
-returns c =
+pub returns-else-conns-le-FEW : goal.returns-else-conns-le-FEW
+returns-else-conns-le-FEW c =
     let a = c.args in
     let v = words a.conns.bytes.now in
     λ s. walked_end (recs row_size read_row a.rows.count (words a.rows.bytes.now)) a.conns.count v c.loop-lo.invariant (omega arith) s.fit (passed (Entries (recs conn_size read_conn a.conns.count v))
     c.entries_fit.result c.if-not-entries_fit.false-raw c.entries_fit.ensures.0)
+
+pub returns-else-not-fits_with : goal.returns-else-not-fits_with
+returns-else-not-fits_with c =
+    let a = c.args in
+    let v = words a.conns.bytes.now in
+    let rs = recs row_size read_row a.rows.count (words a.rows.bytes.now) in
+    λ s. walked_end rs a.conns.count v (walked_turn rs a.conns.count v c.loop-lo.invariant c.last_of-last.ensures
+    (passed (Window (names a.conns.count v) rs (recs conn_size read_conn a.conns.count v) c.loop-lo.done c.last_of-last.result
+    c.loop-lo.lo many) c.fits_with-in-loop-lo.result c.if-not-fits_with.false-raw c.fits_with-in-loop-lo.ensures)) (omega arith) s.fit
+    (passed (Entries (recs conn_size read_conn a.conns.count v)) c.entries_fit.result c.if-not-entries_fit.false-raw c.entries_fit.ensures.0)

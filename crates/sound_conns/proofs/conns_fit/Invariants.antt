@@ -1,4 +1,3 @@
-use Prim.Native.Nat.{◌-◌}
 use Rattle.words.specs.Words.{recs, words}
 use Rattle.regions.specs.Rows.{row_size, read_row}
 use Rattle.sound_conns.proofs.Conns.{Walked}
@@ -6,6 +5,3 @@ use Rattle.sound_conns.proofs.conns_fit.Given as goal
 
 abbrev pub invariant-loop-lo : goal.invariant-loop-lo
 invariant-loop-lo l = Walked (recs row_size read_row l.rows.count (words l.rows.bytes.now)) l.conns.count (words l.conns.bytes.now) l.done l.lo
-
-abbrev pub decreases-loop-lo : goal.decreases-loop-lo
-decreases-loop-lo l = l.conns.count - l.lo
