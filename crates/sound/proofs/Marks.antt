@@ -21,9 +21,9 @@ use Rattle.sound.proofs.Hashes.{hash_read, hashes_turn, hashes_none}
 abbrev pub Marked : ℕ → List ℕ → List ℕ → Type 0
 Marked v marks l = (x : ℕ) → elem x l ≡ true → get_or marks (slot_of x) 0 ≡ v
 
-pub unmarked : (v : ℕ) (marks l : List ℕ) (x : ℕ) {y : ℕ} → Marked v marks l → y ≡ slot_of x → eqb (get_or marks y 0) v ≡ false → elem x l ≡ false
+pub unmarked : (v : ℕ) (marks l : List ℕ) (x : ℕ) {y : ℕ} → Marked v marks l → y ≡ slot_of x → (get_or marks y 0 ≡ v → ⊥) → elem x l ≡ false
 unmarked v marks l x m s z = elim (test (elem x l)) [
-  | inl e ↦ absurd (eqb-false _ v z (ap (λ (i : ℕ). get_or marks i 0) s ∙ m x e))
+  | inl e ↦ absurd (z (ap (λ (i : ℕ). get_or marks i 0) s ∙ m x e))
   | inr e ↦ e
 ]
 

@@ -1,7 +1,7 @@
 // The test of the package places: each written out by its words, fit, with its owner among the rows, ascending by hash.
 //
 // A list of hashes is where it starts in the words and its range: its length stands in another word of the place, which is tested first.
-ghost use Rattle.std.specs.Prelude.{◌≡◌, ◌+◌, ◌*◌, ◌≤◌, ◌<◌, length, false};
+ghost use Rattle.std.specs.Prelude.{◌≡◌, ◌+◌, ◌*◌, ◌≤◌, ◌<◌, length};
 ghost use Rattle.words.specs.Words.{words, recs, Decides};
 ghost use Rattle.regions.specs.Rows.{row_size, read_row, quad_number};
 ghost use Rattle.places.specs.Places.{place_size, list_most};
@@ -61,18 +61,6 @@ fn slot(h: regions::Quad) -> usize
     (b * SPREAD / 0x10_0000 % SLOTS) as usize
 }
 
-// The same of an h that is not among them unless it is marked. (`marked` is what a slot shows, no choice of a step: with the test in the
-// caller, its two ways to a no would meet there and be proved alike twice.)
-fn has_marked(s: &[u8], a: usize, from: usize, to: usize, h: regions::Quad, marked: bool) -> bool
-    requires { (from ≤ to) × (8 * (a + 4 * to) ≤ length s.now) × (marked ≡ false → elem (quad_number h) (hashes_in (words s.now) a from to) ≡ false) }
-    ensures { result ≡ elem (quad_number h) (hashes_in (words s.now) a from to) }
-{
-    if !marked {
-        return false;
-    }
-    has_hash(s, a, from, to, h)
-}
-
 // Whether the n hashes of the list that starts at the word a are distinct. The last comes first; a hash is compared with others only
 // if its slot has the mark already. Slots may have any content before: the mark should be new to them, else all are compared.
 fn distinct(s: &[u8], a: usize, n: usize, slots: &mut [u16], mark: u16) -> bool
@@ -82,7 +70,7 @@ fn distinct(s: &[u8], a: usize, n: usize, slots: &mut [u16], mark: u16) -> bool
     for k in (0..n).rev() {
         let h = regions::read_quad(s, a + k * 4);
         let x = slot(h);
-        if has_marked(s, a, k + 1, n, h, slots[x] == mark) {
+        if slots[x] == mark && has_hash(s, a, k + 1, n, h) {
             return false;
         }
         slots[x] = mark;
