@@ -1,4 +1,7 @@
 // A connection's parents announced (`kin`), and its package claims given up (`lost`); their keys as text.
+//
+// Two functions of one shape. One over the call as a closure would ask in its contract that whatever the call may answer fits (`KeysFit`), and say by the closure's own
+// steps what it left of the store: longer than the three calls that they share.
 ghost use Rattle.std.specs.Prelude.{◌≤◌, length};
 ghost use Rattle.machine.specs.Call.{On, AnnounceParents, FailedPackageClaims};
 ghost use Rattle.lent_lists.specs.Lists.{hashes_in};

@@ -20,7 +20,7 @@ pub const LIST: usize = 12_096;
 // Words of a list.
 const WORDS: usize = 1_512;
 
-// The first n entries of the answer are the list now.
+// The first n entries of the answer are the list now. n is no length: the answer buffer is longer than what the reply lists.
 fn keep(list: &mut [u8], answer: &[u8], n: usize)
     requires { (length list.old ≡ list_bytes) × (n ≤ most_entries) × (entry_bytes * n ≤ length answer.now) }
     ensures { Holds list.new (entries_from answer.now 0 n) }

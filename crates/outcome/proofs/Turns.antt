@@ -8,7 +8,10 @@ use native.Mathlib.Omega.{arith}
 use lib.Dec.{ltb, leb, eqb}
 use lib.ListN.{length}
 use borrow.Author.Tests.{lt-ltb, le-ltb, lt-leb, le-leb, leb-false, ne_eqb, ltb-false}
-use Rattle.std.specs.Prelude.{if◌then◌else◌}
+use Rattle.std.specs.Prelude as rust
+use Rattle.std.specs.Prelude.{if◌then◌else◌, MatchOption, ok_or}
+use Rattle.ident.specs.declared.connection.Connection.{Connection}
+use Rattle.machine.specs.declared.clock.Clock.{Clock}
 use Rattle.machine.specs.Limits.{max_parents, latest_clock}
 use Rattle.machine.specs.State.{State}
 use Rattle.machine.specs.Table.{places_held}
@@ -18,7 +21,7 @@ use Rattle.machine.proofs.Tests.{test}
 use Rattle.outcome.specs.declared.refusal.Refusal.{Refusal}
 use Rattle.outcome.specs.declared.refusal.Refusal.TheVariants.{StoreTooShort, SizesOutOfRange, NotSound, NoConnection, NowTooLate, TooManyParents}
 use Rattle.outcome.specs.declared.refusal.Refusal.TheVariants.{AnswerTooShort, NoPlace, UnreadableLine, BadPayload, NotAListing, ListingNotSound, WrongHashes}
-use Rattle.outcome.specs.Refusals.{number_of}
+use Rattle.outcome.specs.Refusals.{number_of, refusal_in}
 use Rattle.outcome.specs.Tests.{first_of, of_connections, of_clocks, of_parents, of_buffer, of_place, in_turn, of_hashes, hashes_in_turn}
 
 -- ---- what a test answers
@@ -142,6 +145,15 @@ clock_only t = sym (first_none (of_clocks (t ∷ [])))
 pub buffer_only : (l n : ℕ) → of_buffer l n ≡ in_turn [] [] 0 l n
 unfolding of_connections of_clocks of_parents elem any_late
 buffer_only l n = refl
+
+-- the two that give what they have tested
+pub connection-tested : (o : rust.Option Connection) (n : ℕ) → MatchOption o (n ≡ 0) (λ c. c.number ≡ n) → refusal_in (ok_or o NoConnection) ≡ in_turn (n ∷ []) [] 0 0 0
+connection-tested rust.None n h = connection_none n h ∙ connection_only n
+connection-tested (rust.Some c) n h = connection_some n (λ z. omega (arith, c.positive, h, z)) ∙ connection_only n
+
+pub clock-tested : (o : rust.Option Clock) (t : ℕ) → MatchOption o (latest_clock < t) (λ c. c.time ≡ t) → refusal_in (ok_or o NowTooLate) ≡ in_turn [] (t ∷ []) 0 0 0
+clock-tested rust.None t h = clock-late t h ∙ clock_only t
+clock-tested (rust.Some c) t h = clock_early t (omega (arith, c.early, h)) ∙ clock_only t
 
 -- tests 4 and 5 alone
 named-alone : (n t : ℕ) → in_turn (n ∷ []) (t ∷ []) 0 0 0 ≡ first_of (of_connections (n ∷ [])) (of_clocks (t ∷ []))

@@ -33,7 +33,8 @@ pub struct Departure {
 // "Where the Rust returns nothing, the reply is 1."
 pub const RETURNED: u64 = 1;
 
-// "A reply of 0 is the Rust's `false`", 1 its `true`: replies are numbers in C and on event lines, and so here.
+// "A reply of 0 is the Rust's `false`", 1 its `true`: replies are numbers in C, on event lines and in the contract of every call (`reply_of`), and so here. A bool, or
+// nothing, as a call's answer would be made this number at each place that hands it on.
 pub fn replied(yes: bool) -> u64
     ensures { result ≡ one yes }
 {

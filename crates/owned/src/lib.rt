@@ -3,7 +3,8 @@
 // Each asks for a sound store and does not test it: what the checked call (crates/exports) does behind its sound test. It leaves a sound store, so that an
 // owner whose bytes nobody else writes, once opened or tested, may call on for ever. A caller that is proved shows `requires`; one in C or Rust must keep the
 // bytes to itself. This archive is another than the checked one, which has no such function.
-// The C interface wants a function of its own for each name, so the two families are written out; crates/crossing has what they share.
+// The C interface wants a function of its own for each name, with C's types: kinds are numbers, flags bools, and what is handed out goes through one pointer each.
+// So the two families are written out, and functions of one shape stand side by side; crates/crossing has what they share.
 #![tactic(auto)]
 
 ghost use Rattle.machine.specs.Call.{On, Sum};

@@ -14,7 +14,7 @@ use Rattle.words.proofs.Words.{length-words}
 use Rattle.machine.specs.Limits.{word}
 use Rattle.machine.specs.State.{Entry, Table}
 use Rattle.machine.specs.Table.{at}
-use Rattle.machine.specs.Claim.{elem, witness_kind, witness_item, for_witness, insert_by_connection, sort_by_connection, arrange}
+use Rattle.machine.specs.Claim.{elem, witness_kind, for_witness, insert_by_connection, sort_by_connection, arrange}
 use Rattle.machine.specs.Typed.{Each}
 use Rattle.machine.specs.Call.{Buffer, Arrange, On, entry_bytes, named, takes_place}
 use Rattle.machine.specs.Step.{Entries, perform, entries_answer, written}

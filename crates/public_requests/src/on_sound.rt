@@ -2,6 +2,9 @@
 //
 // Each makes the tests 4 to 8 and carries the call out. The public calls are these behind the sound test: their contract is the same, and asks nothing of the
 // store. What they leave of a sound store is sound (crates/outcome/proofs/Owned, `does-keeps-sound`), so that an owner never tests again.
+//
+// A call of document 01 is a function of its own, with the call's own arguments and the call in its contract, also where two have one shape (announce and
+// request_parent; failed and failed_package_info). What they share stands once: the tests, the need, the reply (crates/outcome).
 ghost use Rattle.machine.specs.Call.{On, Sum};
 ghost use Rattle.store.specs.Image.{SoundStore};
 ghost use Rattle.outcome.specs.Outcome.{Leaves};

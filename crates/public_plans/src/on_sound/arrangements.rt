@@ -14,9 +14,11 @@ pub fn arrange(s: &[u8], witnesses: &[u8], taken: &[u8], answer: &mut [u8]) -> R
     ensures { LeavesWith (On (Arrange (words witnesses.now) (entries_in taken.now) answer.old)) s.now s.now
         answer.new (entries_of result) }
 {
-    let zero = sending::witness::listed(witnesses, 0);
+    if sending::witness::listed(witnesses, 0) {
+        return Err(Refusal::NoConnection);
+    }
     let needs = list_needs(taken);
-    refusals::of_connections_and_buffer(zero, answer.len(), needs)?;
+    refusals::of_buffer(answer.len(), needs)?;
     let n = refusals::need_of(s);
     let sent = sending::arranging::arrange(&s[..n], taken, witnesses, answer);
     Ok(sent as u64)

@@ -12,9 +12,11 @@ pub fn owners_of(s: &[u8], hashes: &[u8], answer: &mut [u8]) -> Result<u64, Refu
     ensures { LeavesWith (On (OwnersOf (hashes_in hashes.now) answer.old)) s.now s.now
         answer.new (owners_of (hashes_in hashes.now) result) }
 {
-    let wrong = owners::list::wrong(hashes);
+    if owners::list::wrong(hashes) {
+        return Err(Refusal::WrongHashes);
+    }
     let needs = owners::list::needs(hashes);
-    refusals::of_hashes_and_buffer(wrong, answer.len(), needs)?;
+    refusals::of_buffer(answer.len(), needs)?;
     let n = refusals::need_of(s);
     let passed = owners::owners_of(&s[..n], hashes, answer);
     Ok(passed)

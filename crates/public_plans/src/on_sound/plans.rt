@@ -11,7 +11,6 @@ ghost use Rattle.public_plans.specs.Entries.{entries_of, planned_of};
 
 use crate::Selection;
 use claiming::entries::ENTRY_BYTES;
-use machine::clock::Clock;
 use outcome::{Refusal, refusals};
 
 // The bytes that an answer may need that has some of a list's entries: the length in entries.
@@ -26,9 +25,9 @@ pub fn claim(s: &mut [u8], clock: u64, checked: &[u8], answer: &mut [u8]) -> Res
     ensures { LeavesWith (On (Claim clock (entries_in checked.now) answer.old)) s.old s.new answer.new (entries_of result) }
 {
     let needs = list_needs(checked);
-    refusals::of_clock_and_buffer(clock, answer.len(), needs)?;
+    let clock = refusals::of_clock_and_buffer(clock, answer.len(), needs)?;
     let n = refusals::need_of(s);
-    let taken = claiming::entries::claim_bytes(&mut s[..n], Clock { time: clock }, checked, answer);
+    let taken = claiming::entries::claim_bytes(&mut s[..n], clock, checked, answer);
     Ok(taken as u64)
 }
 
@@ -52,9 +51,9 @@ pub fn plan(s: &mut [u8], clock: u64, answer: &mut [u8]) -> Result<Selection, Re
     ensures { LeavesWith (On (Plan clock none answer.old)) s.old s.new answer.new (planned_of result) }
 {
     let needs = plan_needs(s);
-    refusals::of_clock_and_buffer(clock, answer.len(), needs)?;
+    let clock = refusals::of_clock_and_buffer(clock, answer.len(), needs)?;
     let n = refusals::need_of(s);
-    let r = planning::plan::plan(&mut s[..n], Clock { time: clock }, None, answer);
+    let r = planning::plan::plan(&mut s[..n], clock, None, answer);
     Ok(Selection {
         considered: r.considered,
         chosen: r.count as u64,
@@ -72,9 +71,9 @@ pub fn plan_given(
     ensures { LeavesWith (On (Plan clock (some (given_keys given.now)) answer.old)) s.old s.new answer.new (planned_of result) }
 {
     let needs = plan_needs(s);
-    refusals::of_clock_and_buffer(clock, answer.len(), needs)?;
+    let clock = refusals::of_clock_and_buffer(clock, answer.len(), needs)?;
     let n = refusals::need_of(s);
-    let r = planning::plan::plan(&mut s[..n], Clock { time: clock }, Some(given), answer);
+    let r = planning::plan::plan(&mut s[..n], clock, Some(given), answer);
     Ok(Selection {
         considered: r.considered,
         chosen: r.count as u64,

@@ -6,7 +6,6 @@ ghost use Rattle.store.specs.Image.{SoundStore};
 ghost use Rattle.outcome.specs.Outcome.{Leaves, LeavesWith};
 ghost use Rattle.outcome.specs.Reply.{reply_of, listing_of};
 
-use machine::clock::Clock;
 use outcome::{Refusal, refusals, replied};
 
 // The bytes that a sweep's answer may need: min(1,024, L) keys.
@@ -36,7 +35,7 @@ pub fn poll_gate(s: &mut [u8], clock: u64) -> Result<u64, Refusal>
     requires { SoundStore s.old }
     ensures { Leaves (On (PollGate clock)) s.old s.new (reply_of result) }
 {
-    refusals::of_clock(clock)?;
+    let clock = refusals::of_clock(clock)?;
     let n = refusals::need_of(s);
-    Ok(replied(sweeping::poll_gate(&mut s[..n], Clock { time: clock })))
+    Ok(replied(sweeping::poll_gate(&mut s[..n], clock)))
 }

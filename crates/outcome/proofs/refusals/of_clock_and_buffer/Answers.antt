@@ -4,10 +4,15 @@ use Rattle.outcome.proofs.Exits.{hands-on}
 use Rattle.outcome.proofs.Turns.{first-refused, first-passed, clock-sized}
 use Rattle.outcome.proofs.refusals.of_clock_and_buffer.Goals as goal
 
-pub returns-in_err-of_clock : goal.returns-in_err-of_clock
-returns-in_err-of_clock c =
+pub returns-in_err-clock-clause-test : goal.returns-in_err-clock-clause-test
+returns-in_err-clock-clause-test c =
     rw (hands-on _ c.from_residual.ensures.1)
-    (first-refused _ _ c.in_err-of_clock.ensures ∙ clock-sized _ c.args.length c.args.needs)
+    (first-refused _ _ c.in_err-clock.ensures.test ∙ clock-sized _ c.args.length c.args.needs)
 
-pub returns : goal.returns
-returns c = first-passed c.in_ok-of_clock.ensures c.of_buffer.ensures ∙ clock-sized _ _ _
+pub returns-in_err-of_buffer-clause-test : goal.returns-in_err-of_buffer-clause-test
+returns-in_err-of_buffer-clause-test c =
+    rw (hands-on _ c.from_residual-in_err-of_buffer.ensures.1)
+    (first-passed c.in_ok-clock.ensures.test c.in_err-of_buffer.ensures ∙ clock-sized _ _ _)
+
+pub returns-clause-test : goal.returns-clause-test
+returns-clause-test c = first-passed c.in_ok-clock.ensures.test c.in_ok-of_buffer.ensures ∙ clock-sized _ _ _

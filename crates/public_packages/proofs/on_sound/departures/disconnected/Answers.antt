@@ -9,15 +9,15 @@ use Rattle.public_packages.proofs.on_sound.departures.disconnected.Goals as goal
 
 pub returns-in_err-in_turn : goal.returns-in_err-in_turn
 returns-in_err-in_turn c =
-    rw (hands-on _ c.from_residual.ensures.1) (refused (departs _ _ _) c.requires _ (c.in_err-in_turn.ensures ∙ rw (c.departure_needs-needs.ensures c.requires)))
+    rw (hands-on _ c.from_residual.ensures.1) (refused (departs _ _ _) c.requires _ (c.in_err-in_turn.ensures.test ∙ rw (c.departure_needs-needs.ensures c.requires)))
 
 pub invariant_of-disconnected : goal.invariant_of-disconnected
-invariant_of-disconnected c = record { positive = some_connection _ (passed c.in_ok-in_turn.ensures).connections }
+invariant_of-disconnected c = record { positive = some_connection _ (passed c.in_ok-in_turn.ensures.test).connections }
 
 pub disconnected-left-requires : goal.disconnected-left-requires
 disconnected-left-requires c =
     let w = c.requires in
-    let p = passed c.in_ok-in_turn.ensures in
+    let p = passed c.in_ok-in_turn.ensures.test in
     let e = c.need_of-n.ensures in
     (e.kept, omega (arith, p.room, c.departure_needs-needs.ensures w, front_limit w e, front_places w e))
 
@@ -25,5 +25,5 @@ pub returns : goal.returns
 returns c =
     let w = c.requires in
     departs_done _ _ w (omega arith)
-    (c.in_ok-in_turn.ensures ∙ rw (c.departure_needs-needs.ensures w)) c.need_of-n.ensures
+    (c.in_ok-in_turn.ensures.test ∙ rw (c.departure_needs-needs.ensures w)) c.need_of-n.ensures
     (λ i. omega (arith, c.type_inv.s i)) c.disconnected-left.ensures

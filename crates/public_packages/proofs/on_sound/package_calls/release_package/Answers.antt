@@ -10,14 +10,14 @@ use Rattle.public_packages.proofs.on_sound.package_calls.release_package.Goals a
 
 pub returns-in_err-in_turn : goal.returns-in_err-in_turn
 returns-in_err-in_turn c =
-    rw (hands-on _ c.from_residual.ensures.1) (refused (releases-package _ _ _ _).names c.requires _ c.in_err-in_turn.ensures)
+    rw (hands-on _ c.from_residual.ensures.1) (refused (releases-package _ _ _ _).names c.requires _ c.in_err-in_turn.ensures.test)
 
 pub invariant_of-release_package : goal.invariant_of-release_package
-invariant_of-release_package c = record { positive = some_connection _ (passed c.in_ok-in_turn.ensures).connections }
+invariant_of-release_package c = record { positive = some_connection _ (passed c.in_ok-in_turn.ensures.test).connections }
 
 pub release_package-listed-requires : goal.release_package-listed-requires
 release_package-listed-requires c =
-    let p = passed c.in_ok-in_turn.ensures in
+    let p = passed c.in_ok-in_turn.ensures.test in
     (c.need_of-n.ensures.kept, omega (arith, p.room))
 
 pub returns : goal.returns
@@ -27,5 +27,5 @@ returns c =
     (subject_below c.args.subject
     c.well_formed.1.1.0) in
     lists_done (releases-package _ _ _ _) c.requires
-    c.in_ok-in_turn.ensures c.need_of-n.ensures
+    c.in_ok-in_turn.ensures.test c.need_of-n.ensures
     (λ i. omega (arith, c.type_inv.s i)) k c.release_package-listed.ensures

@@ -10,26 +10,26 @@ use Rattle.public_packages.proofs.on_sound.package_claims.failed_package_claims.
 
 pub returns-in_err-in_turn : goal.returns-in_err-in_turn
 returns-in_err-in_turn c =
-    rw (hands-on _ c.from_residual.ensures.1) (refused (fails-claims _ _ _ _).names c.requires _ (sized _ _ _ _ c.in_err-in_turn.ensures (c.claims_needs-needs.ensures c.requires)))
+    rw (hands-on _ c.from_residual.ensures.1) (refused (fails-claims _ _ _ _).names c.requires _ (sized _ _ _ _ c.in_err-in_turn.ensures.test (c.claims_needs-needs.ensures c.requires)))
 
 pub invariant_of-failed_package_claims : goal.invariant_of-failed_package_claims
-invariant_of-failed_package_claims c = record { positive = some_connection _ (passed c.in_ok-in_turn.ensures).connections }
+invariant_of-failed_package_claims c = record { positive = some_connection _ (passed c.in_ok-in_turn.ensures.test).connections }
 
 pub failed_package_claims-listed-requires : goal.failed_package_claims-listed-requires
 failed_package_claims-listed-requires c =
     let w = c.requires in
-    let p = passed c.in_ok-in_turn.ensures in
+    let p = passed c.in_ok-in_turn.ensures.test in
     let e = c.need_of-n.ensures in
     (e.kept, omega (arith, p.room, c.claims_needs-needs.ensures w, front_places w e))
 
 pub returns : goal.returns
 returns c =
     let w = c.requires in
-    let q = sized _ _ _ _ c.in_ok-in_turn.ensures
+    let q = sized _ _ _ _ c.in_ok-in_turn.ensures.test
     (c.claims_needs-needs.ensures w) in
     let a = c.args in
     let peer : Peer a.connection = record
-    { positive = some_connection _ (passed c.in_ok-in_turn.ensures).connections; small = omega arith } in
+    { positive = some_connection _ (passed c.in_ok-in_turn.ensures.test).connections; small = omega arith } in
     let typed = claims-typed w.state w.sound _ _ a.clock peer (omega arith) in
     lists_done (fails-claims _ _ _ _) w q c.need_of-n.ensures (λ i. omega (arith, c.type_inv.s i))
     typed c.failed_package_claims-listed.ensures

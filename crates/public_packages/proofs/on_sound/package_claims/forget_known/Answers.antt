@@ -9,10 +9,10 @@ use Rattle.public_packages.proofs.on_sound.package_claims.forget_known.Goals as 
 
 pub returns-in_err-of_clock : goal.returns-in_err-of_clock
 returns-in_err-of_clock c =
-    rw (hands-on _ c.from_residual.ensures.1) (refused (forgets_known _ _).names c.requires _ c.in_err-of_clock.ensures)
+    rw (hands-on _ c.from_residual.ensures.1) (refused (forgets_known _ _).names c.requires _ c.in_err-of_clock.ensures.test)
 
 pub returns : goal.returns
 returns c =
     yes-no_done (forgets_known _ _) c.requires
-    c.in_ok-of_clock.ensures
+    c.in_ok-of_clock.ensures.test
     c.need_of-n.ensures (λ i. omega (arith, c.type_inv.s i)) (silent-within c.forget_known.ensures) refl

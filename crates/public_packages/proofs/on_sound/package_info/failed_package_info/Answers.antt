@@ -7,11 +7,11 @@ use Rattle.public_packages.proofs.on_sound.package_info.failed_package_info.Goal
 
 pub returns-in_err-of_connection_and_clock : goal.returns-in_err-of_connection_and_clock
 returns-in_err-of_connection_and_clock c =
-    rw (hands-on _ c.from_residual.ensures.1) (refused (fails-info _ _ _).names c.requires _ c.in_err-of_connection_and_clock.ensures)
+    rw (hands-on _ c.from_residual.ensures.1) (refused (fails-info _ _ _).names c.requires _ c.in_err-of_connection_and_clock.ensures.test)
 
 pub returns : goal.returns
 returns c =
     yes-no_done (fails-info _ _ _) c.requires
-    c.in_ok-of_connection_and_clock.ensures
+    c.in_ok-of_connection_and_clock.ensures.test
     c.need_of-n.ensures (λ i. omega (arith, c.type_inv.s i)) c.failed_package_info.ensures
     c.replied.ensures

@@ -7,9 +7,9 @@ use Rattle.public_packages.proofs.on_sound.package_info.of_solicitation.Goals as
 
 pub returns-in_err-in_turn : goal.returns-in_err-in_turn
 returns-in_err-in_turn c w hs l =
-    rw (hands-on _ c.from_residual.ensures.1, solicit_turn _ _ _ hs w.state, ← l) (first-refused _ _ c.in_err-in_turn.ensures)
+    rw (hands-on _ c.from_residual.ensures.1, solicit_turn _ _ _ hs w.state, ← l) (first-refused _ _ c.in_err-in_turn.ensures.test)
 
 pub returns : goal.returns
 returns c w hs l =
     let e = c.of_place.ensures hs w.state w.sound (front_writes w c.need_of-n.ensures) in
-    rw (solicit_turn _ _ _ hs w.state, ← l) (first-passed c.in_ok-in_turn.ensures e)
+    rw (solicit_turn _ _ _ hs w.state, ← l) (first-passed c.in_ok-in_turn.ensures.test e)

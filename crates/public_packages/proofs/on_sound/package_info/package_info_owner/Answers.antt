@@ -9,14 +9,14 @@ use Rattle.public_packages.proofs.on_sound.package_info.package_info_owner.Goals
 
 pub returns-in_err-of_clock : goal.returns-in_err-of_clock
 returns-in_err-of_clock c =
-    rw (hands-on _ c.from_residual.ensures.1) (refused (reads-owner _ _).names c.requires _ c.in_err-of_clock.ensures)
+    rw (hands-on _ c.from_residual.ensures.1) (refused (reads-owner _ _).names c.requires _ c.in_err-of_clock.ensures.test)
 
 pub returns-in-Some : goal.returns-in-Some
 returns-in-Some c =
-    reads_done (reads-owner _ _) c.requires c.in_ok-of_clock.ensures
+    reads_done (reads-owner _ _) c.requires c.in_ok-of_clock.ensures.test
     c.need_of-n.ensures (λ i. omega (arith, c.type_inv.s i)) (λ st s w. c.in-Some.ensures st s w)
 
 pub returns-in-None : goal.returns-in-None
 returns-in-None c =
-    reads_done (reads-owner _ _) c.requires c.in_ok-of_clock.ensures
+    reads_done (reads-owner _ _) c.requires c.in_ok-of_clock.ensures.test
     c.need_of-n.ensures (λ i. omega (arith, c.type_inv.s i)) (λ st s w. sym (c.in-None.ensures st s w))

@@ -3,34 +3,31 @@ use mathlib.Core.Option.{some}
 use native.Mathlib.Omega.{arith}
 use Rattle.selecting.specs.Phasing.{given_keys}
 use Rattle.selecting.proofs.Given.{given_typed}
-use Rattle.outcome.proofs.Turns.{early_clock, passed, sized}
+use Rattle.outcome.proofs.Turns.{passed, sized}
 use Rattle.outcome.proofs.Exits.{hands-on}
 use Rattle.outcome.proofs.Carried.{refused, front_limit}
 use Rattle.public_plans.proofs.Planned.{plans, plans_done}
 use Rattle.public_plans.proofs.on_sound.plans.plan_given.Goals as goal
 
-pub returns-in_err-of_clock_and_buffer : goal.returns-in_err-of_clock_and_buffer
-returns-in_err-of_clock_and_buffer c =
-    rw (hands-on _ c.from_residual.ensures.1) (refused (plans _ _ _) c.requires _ (sized _ _ _ _ c.in_err-of_clock_and_buffer.ensures (c.plan_needs-needs.ensures c.requires)))
+pub returns-in_err-clock : goal.returns-in_err-clock
+returns-in_err-clock c =
+    rw (hands-on _ c.from_residual.ensures.1) (refused (plans _ _ _) c.requires _ (sized _ _ _ _ c.in_err-clock.ensures.test (c.plan_needs-needs.ensures c.requires)))
 
 pub plan-r-requires : goal.plan-r-requires
 plan-r-requires c =
     let w = c.requires in
-    let p = passed c.in_ok-of_clock_and_buffer.ensures in
+    let p = passed c.in_ok-clock.ensures.test in
     let e = c.need_of-n.ensures in
     (e.kept, omega (arith, p.room, c.plan_needs-needs.ensures w, front_limit w e))
-
-pub invariant_of-plan : goal.invariant_of-plan
-invariant_of-plan c = record { early = early_clock _ (passed c.in_ok-of_clock_and_buffer.ensures).clocks }
 
 pub returns : goal.returns
 returns c =
     let w = c.requires in
     let a = c.args in
-    let q = sized _ _ _ _ c.in_ok-of_clock_and_buffer.ensures
+    let q = sized _ _ _ _ c.in_ok-clock.ensures.test
     (c.plan_needs-needs.ensures w) in
     plans_done _ (some (given_keys a.given.now)) w (omega arith)
     (given_typed a.given.now
     (λ i. omega (arith, c.type_inv.given i))) q
     c.need_of-n.ensures
-    (λ i. omega (arith, c.type_inv.s i)) c.plan-r.ensures
+    (λ i. omega (arith, c.type_inv.s i)) (rw c.in_ok-clock.ensures.given at c.plan-r.ensures)

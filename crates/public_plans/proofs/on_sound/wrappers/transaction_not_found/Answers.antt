@@ -11,15 +11,15 @@ use Rattle.public_plans.proofs.on_sound.wrappers.transaction_not_found.Goals as 
 
 pub returns-in_err-in_turn : goal.returns-in_err-in_turn
 returns-in_err-in_turn c =
-    rw (hands-on _ c.from_residual.ensures.1) (refused (misses _ _ _ _).names c.requires _ (sized _ _ _ _ c.in_err-in_turn.ensures (c.missing_needs-needs.ensures c.requires)))
+    rw (hands-on _ c.from_residual.ensures.1) (refused (misses _ _ _ _).names c.requires _ (sized _ _ _ _ c.in_err-in_turn.ensures.test (c.missing_needs-needs.ensures c.requires)))
 
 pub invariant_of-transaction_not_found : goal.invariant_of-transaction_not_found
-invariant_of-transaction_not_found c = record { positive = some_connection _ (passed c.in_ok-in_turn.ensures).connections }
+invariant_of-transaction_not_found c = record { positive = some_connection _ (passed c.in_ok-in_turn.ensures.test).connections }
 
 pub transaction_not_found-listed-requires : goal.transaction_not_found-listed-requires
 transaction_not_found-listed-requires c =
     let w = c.requires in
-    let p = passed c.in_ok-in_turn.ensures in
+    let p = passed c.in_ok-in_turn.ensures.test in
     let e = c.need_of-n.ensures in
     (e.kept, omega (arith, p.room, c.missing_needs-needs.ensures w, front_places w e))
 
@@ -27,10 +27,10 @@ pub returns : goal.returns
 returns c =
     let w = c.requires in
     let a = c.args in
-    let q = sized _ _ _ _ c.in_ok-in_turn.ensures
+    let q = sized _ _ _ _ c.in_ok-in_turn.ensures.test
     (c.missing_needs-needs.ensures w) in
     let peer : Peer a.connection = record
-    { positive = some_connection _ (passed c.in_ok-in_turn.ensures).connections; small = omega arith } in
+    { positive = some_connection _ (passed c.in_ok-in_turn.ensures.test).connections; small = omega arith } in
     let fit = items-fit a.items.now
     (λ i. omega (arith, c.type_inv.items i)) in
     let typed = missing-typed w.state w.sound _ a.clock _ peer (omega arith) fit in

@@ -9,10 +9,10 @@ use Rattle.public_plans.proofs.on_sound.wrappers.transaction_response_completed.
 
 pub returns-in_err-of_connection_and_clock : goal.returns-in_err-of_connection_and_clock
 returns-in_err-of_connection_and_clock c =
-    rw (hands-on _ c.from_residual.ensures.1) (refused (completes _ _ _ _).names c.requires _ c.in_err-of_connection_and_clock.ensures)
+    rw (hands-on _ c.from_residual.ensures.1) (refused (completes _ _ _ _).names c.requires _ c.in_err-of_connection_and_clock.ensures.test)
 
 pub returns : goal.returns
 returns c =
     yes-no_done (completes _ _ _ _) c.requires
-    c.in_ok-of_connection_and_clock.ensures
+    c.in_ok-of_connection_and_clock.ensures.test
     c.need_of-n.ensures (λ i. omega (arith, c.type_inv.s i)) (silent-answer c.transaction_response_completed.ensures) refl

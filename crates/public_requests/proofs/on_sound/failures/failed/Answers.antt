@@ -7,10 +7,10 @@ use Rattle.public_requests.proofs.on_sound.failures.failed.Goals as goal
 
 pub returns-in_err-of_connection_and_clock : goal.returns-in_err-of_connection_and_clock
 returns-in_err-of_connection_and_clock c =
-    rw (hands-on _ c.from_residual.ensures.1) (refused (fails _ _ _).names c.requires _ c.in_err-of_connection_and_clock.ensures)
+    rw (hands-on _ c.from_residual.ensures.1) (refused (fails _ _ _).names c.requires _ c.in_err-of_connection_and_clock.ensures.test)
 
 pub returns : goal.returns
 returns c =
     yes-no_done (fails _ _ _) c.requires
-    c.in_ok-of_connection_and_clock.ensures
+    c.in_ok-of_connection_and_clock.ensures.test
     c.need_of-n.ensures (λ i. omega (arith, c.type_inv.s i)) c.failed.ensures c.replied.ensures

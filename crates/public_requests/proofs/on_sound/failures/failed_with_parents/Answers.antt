@@ -10,14 +10,14 @@ use Rattle.public_requests.proofs.on_sound.failures.failed_with_parents.Goals as
 
 pub returns-in_err-in_turn : goal.returns-in_err-in_turn
 returns-in_err-in_turn c =
-    rw (hands-on _ c.from_residual.ensures.1) (refused (fails_with_parents _ _ _ _).names c.requires _ c.in_err-in_turn.ensures)
+    rw (hands-on _ c.from_residual.ensures.1) (refused (fails_with_parents _ _ _ _).names c.requires _ c.in_err-in_turn.ensures.test)
 
 pub invariant_of-failed_with_parents : goal.invariant_of-failed_with_parents
-invariant_of-failed_with_parents c = record { positive = some_connection _ (passed c.in_ok-in_turn.ensures).connections }
+invariant_of-failed_with_parents c = record { positive = some_connection _ (passed c.in_ok-in_turn.ensures.test).connections }
 
 pub failed_with_parents-listed-requires : goal.failed_with_parents-listed-requires
 failed_with_parents-listed-requires c =
-    let p = passed c.in_ok-in_turn.ensures in
+    let p = passed c.in_ok-in_turn.ensures.test in
     (c.need_of-n.ensures.kept, omega (arith, p.room))
 
 pub returns : goal.returns
@@ -27,5 +27,5 @@ returns c =
     (key-typed c.args.key
     c.well_formed.1.0) in
     lists_done (fails_with_parents _ _ _ _) c.requires
-    c.in_ok-in_turn.ensures c.need_of-n.ensures
+    c.in_ok-in_turn.ensures.test c.need_of-n.ensures
     (λ i. omega (arith, c.type_inv.s i)) k c.failed_with_parents-listed.ensures
