@@ -1,4 +1,4 @@
-// Arguments given in parts: a candidate, and a key by the number of its kind and its bytes.
+// Arguments given in parts, as C has them: a candidate, whose flag is a bool, and a key by the number of its kind and its bytes.
 ghost use Rattle.std.specs.Prelude.{◌≡◌};
 ghost use Rattle.ident.specs.Words.{key_num};
 ghost use Rattle.requests.specs.Changes.{candidate_of};

@@ -22,7 +22,8 @@ pub fn status(a: Result<u64, Refusal>) -> u64
     a.err().map_or(0, u64::from)
 }
 
-// The status of an answer, and what it tells handed to `write`, which puts it where the caller has asked for it: one function for all that is handed out.
+// The status of an answer, and what it tells handed to `write`, which puts it where the caller has asked for it: one function for all that is
+// handed out. Those below say which number goes where.
 fn hand<T, E, W: FnMut(T)>(a: Result<T, E>, write: &mut W) -> u64
 where
     u64: From<E>,

@@ -1,16 +1,18 @@
 -- Standard input a byte at a time: what the program keeps is what was read.
 use Prim.Native.Nat.{ℕ, suc, ◌+◌, ◌<◌, ◌≤◌}
 use mathlib.Core.Path.{◌≡◌, refl, sym, ap, subst, ◌∙◌}
+use mathlib.Core.Bool.{true, false}
 use mathlib.Core.List.{List, [], ◌∷◌, ◌++◌, append_assoc, append-nil}
 use mathlib.Core.Option.{Option, none, some}
 use native.Mathlib.Omega.{arith}
 use lib.ListN.{length, take, drop, set, get_or, length-append}
 use lib.Seq.{take_all, take_at, take-suc, take-suc-set}
-use borrow.Author.Tests.{lt-ltb, le-ltb, eq-eqb, ne_eqb}
+use borrow.Author.Tests.{lt-ltb, le-ltb, eq-eqb, ne_eqb, ltb-true, ltb-false}
 use Rattle.words.specs.Words.{splice}
 use Rattle.lines.specs.Text.{Wrote}
-use Rattle.events.specs.declared.input.Kept.{Kept}
-use Rattle.events.specs.declared.input.Kept.TheVariants.{Whole, TooLong}
+use Rattle.events.specs.declared.kept.Length.{Length}
+use Rattle.events.specs.declared.kept.Kept.{Kept}
+use Rattle.events.specs.declared.kept.Kept.TheVariants.{Whole, TooLong}
 use Rattle.reading.specs.Line.{Line}
 use Rattle.asking.specs.Calls.{line_of}
 use Rattle.printing.specs.Replies.{refusal_text, unreadable}
@@ -20,7 +22,7 @@ use Rattle.keeping.specs.Lists.{kept_lists}
 use Rattle.printing.specs.Answers as answers
 use Rattle.printing.specs.Answers.{AnsweredAs}
 use Rattle.keeping.specs.Steps.{Stepped}
-use Rattle.events.specs.Input.{asked_in, HeldLine, asks_for, MeantAs, Replied, line_feed, LineAnswered, Reading, started, ReadsAll}
+use Rattle.events.specs.Input.{asked_in, has_line, HeldLine, asks_for, MeantAs, Replied, line_feed, LineAnswered, Reading, started, ReadsAll}
 use Rattle.events.specs.Input.{nothing, further, EndsAs, Held, Said, Took, TookAll, TookSome, Ended, Ran}
 
 -- ---- one answer
@@ -82,13 +84,14 @@ module _ {k : Kept} {buffer store lists : List ℕ} {p : Reading} (g : Held k bu
 
   -- ---- a byte
 
-  pub took_feed : {x : ℕ} {lists' store' out : List ℕ} {r : ℕ} → x ≡ line_feed → Said (asked_in k buffer) lists lists' store store' out r → Took p x (Whole 0) buffer store' lists' out
-  took_feed {x} {lists'} {store'} {out} {r} e a =
+  pub took_feed : {x : ℕ} {none : Length} {lists' store' out : List ℕ} {r : ℕ} → x ≡ line_feed → none.bytes ≡ 0 → Said (asked_in k buffer) lists lists' store store' out r
+      → Took p x (Whole none) buffer store' lists' out
+  took_feed {x} {none} {lists'} {store'} {out} {r} e z a =
       record {
         next = record { line = []; store = store'; kept = kept_lists lists' };
         said = a.text ++ (line_feed ∷ []);
         reads = record { is = rw (eq-eqb x line_feed e) (refl, answered-line a) };
-        held = record { line_is = (refl, omega arith, refl); store_is = refl; lists-are = refl };
+        held = record { line_is = (z, omega arith, rw z refl); store_is = refl; lists-are = refl };
         shown = rw (← a.count) a.shown;
       }
 
@@ -106,27 +109,35 @@ one_longer : (l : List ℕ) (x : ℕ) → length (l ++ (x ∷ [])) ≡ suc (leng
 one_longer l x = length-append l (x ∷ []) ∙ omega arith
 
 -- the line is too long already
-pub took_longer : (k : Kept) {x : ℕ} {buffer store lists out : List ℕ} {p : Reading} → ((n : ℕ) → k ≡ Whole n → ⊥) → Held k buffer store lists p → (x ≡ line_feed → ⊥)
+pub took_longer : (k : Kept) {x : ℕ} {buffer store lists out : List ℕ} {p : Reading} → ((n : Length) → k ≡ Whole n → ⊥) → Held k buffer store lists p → (x ≡ line_feed → ⊥)
     → Took p x k buffer store lists out
 took_longer (Whole n) short g other = absurd (short n refl)
 took_longer TooLong {x} {p = p} short g other = took_other g other (omega (arith, g.line_is, one_longer p.line x))
 
-module _ {n x : ℕ} {buffer store lists : List ℕ} {p : Reading} (g : Held (Whole n) buffer store lists p) (other : x ≡ line_feed → ⊥) where
+module _ {n : Length} {x : ℕ} {buffer store lists : List ℕ} {p : Reading} (g : Held (Whole n) buffer store lists p) (other : x ≡ line_feed → ⊥) where
   -- the buffer is full
-  pub took_over : {out : List ℕ} → n ≡ line_room → Took p x TooLong buffer store lists out
+  pub took_over : {out : List ℕ} → n.bytes ≡ line_room → Took p x TooLong buffer store lists out
   took_over e = took_other g other (omega (arith, g.line_is.0, one_longer p.line x))
 
   -- the buffer takes it
-  pub took_byte : {out : List ℕ} → n < line_room → line_room ≤ length buffer → Took p x (Whole (n + 1)) (set buffer n x) store lists out
-  took_byte h room =
-      let e : n + 1 ≡ suc n = omega arith in
+  pub took_byte : {more : Length} {out : List ℕ} → more.bytes ≡ n.bytes + 1 → n.bytes < line_room → line_room ≤ length buffer → Took p x (Whole more) (set buffer n.bytes x) store lists out
+  took_byte m h room =
+      let e : n.bytes + 1 ≡ suc n.bytes = omega arith in
       took_other g other (
+        omega (arith, m, g.line_is.0, one_longer p.line x),
         omega (arith, g.line_is.0, one_longer p.line x),
-        omega (arith, g.line_is.0, one_longer p.line x),
-        rw e (take-suc-set buffer n x (omega arith) ∙ ap (λ (t : List ℕ). t ++ (x ∷ [])) g.line_is.2),
+        rw (m, e) (take-suc-set buffer n.bytes x (omega arith) ∙ ap (λ (t : List ℕ). t ++ (x ∷ [])) g.line_is.2),
       )
 
 -- ---- the end
+
+pub some-line : (k : Kept) (buffer line : List ℕ) → HeldLine k buffer line → has_line k ≡ true → 0 < length line
+some-line (Whole n) buffer line h e = omega (arith, h.0, ltb-true 0 n.bytes e)
+some-line TooLong buffer line h e = omega (arith, h)
+
+pub no-line : (k : Kept) (buffer line : List ℕ) → HeldLine k buffer line → has_line k ≡ false → length line ≡ 0
+no-line (Whole n) buffer line h e = omega (arith, h.0, ltb-false 0 n.bytes e)
+no-line TooLong buffer line h e = cc
 
 pub ended-empty : {k : Kept} {buffer store lists out : List ℕ} {p : Reading} → Held k buffer store lists p → length p.line ≡ 0 → Ended p store out
 ended-empty {store = store} {p = p} g n = record { kept = p.kept; said = []; ends = go p.line n; shown = refl }
@@ -186,8 +197,8 @@ took_more {p} t u =
       };
     }
 
-pub nothing_held : (buffer store lists : List ℕ) → kept_lists lists ≡ no_lists → Held (Whole 0) buffer store lists (started store)
-nothing_held buffer store lists w = record { line_is = (refl, omega arith, refl); store_is = refl; lists-are = w }
+pub nothing_held : {none : Length} (buffer store lists : List ℕ) → none.bytes ≡ 0 → kept_lists lists ≡ no_lists → Held (Whole none) buffer store lists (started store)
+nothing_held buffer store lists z w = record { line_is = (z, omega arith, rw z refl); store_is = refl; lists-are = w }
 
 -- ---- the whole input
 

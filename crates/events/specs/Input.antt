@@ -5,8 +5,8 @@ use Rattle.words.specs.Words.{Decides}
 use Rattle.machine.specs.Call.{Call}
 use Rattle.store.specs.Image.{SoundStore}
 use Rattle.outcome.specs.Outcome.{Effect, Does}
-use Rattle.events.specs.declared.input.Kept.{Kept}
-use Rattle.events.specs.declared.input.Kept.TheVariants.{Whole, TooLong}
+use Rattle.events.specs.declared.kept.Kept.{Kept}
+use Rattle.events.specs.declared.kept.Kept.TheVariants.{Whole, TooLong}
 use Rattle.reading.specs.Line.{Line}
 use Rattle.asking.specs.Calls.{line_of}
 use Rattle.printing.specs.Replies.{refusal_text, unreadable, reply_text}
@@ -99,19 +99,19 @@ pub record Input (b xs b' said : List ℕ) : Type 0 where
 
 -- ---- what the program keeps of it
 
--- the buffer takes what it is said to hold
-abbrev pub InRoom : Kept → Type 0
-InRoom (Whole n) = n ≤ line_room
-InRoom TooLong = Unit {0}
-
 -- what is asked for by a line of which the buffer holds so much
 abbrev pub asked_in : Kept → List ℕ → Option Line
-asked_in (Whole n) buffer = line_of (take n buffer)
+asked_in (Whole n) buffer = line_of (take n.bytes buffer)
 asked_in TooLong buffer = none
+
+-- whether bytes came behind the last line feed
+abbrev pub has_line : Kept → Bool
+has_line (Whole n) = ltb 0 n.bytes
+has_line TooLong = true
 
 -- a line of at most 65,536 bytes stands in the buffer
 abbrev pub HeldLine : Kept → List ℕ → List ℕ → Type 0
-HeldLine (Whole n) buffer line = (n ≡ length line) × (length line ≤ line_room) × (take n buffer ≡ line)
+HeldLine (Whole n) buffer line = (n.bytes ≡ length line) × (length line ≤ line_room) × (take n.bytes buffer ≡ line)
 HeldLine TooLong buffer line = line_room < length line
 
 -- and the kept lists in theirs

@@ -1,11 +1,14 @@
 // The input parted into lines. A line is counted without its line feed; the last one may lack it.
+//
+// Store, kept lists, line and answer are lent one by one, as to crates/answering, and for its reason.
 ghost use Rattle.std.specs.Prelude.{◌≤◌, length, ◌≡◌, unwrap_or};
 ghost use Rattle.printing.specs.Given.{line_room, answer_room};
 ghost use Rattle.printing.specs.Kept.{no_lists};
 ghost use Rattle.keeping.specs.Lists.{kept_bytes, kept_lists, Ordered};
 ghost use Rattle.keeping.specs.Steps.{Stepped};
-ghost use Rattle.events.specs.Input.{InRoom, asked_in, started, OfHeld, Said, Took, TookAll, TookSome, Ended, Ran};
+ghost use Rattle.events.specs.Input.{asked_in, has_line, started, OfHeld, Said, Took, TookAll, TookSome, Ended, Ran};
 
+use crate::kept::{Kept, Length};
 use std::io::{Read, Write};
 
 // The longest line that is read, and the longest answer with its line feed.
@@ -34,20 +37,16 @@ pub fn list_buffer() -> [u8; LISTS]
     [0u8; LISTS]
 }
 
-// What came of a line so far: so many bytes, which the buffer holds, or more than it holds.
-#[derive(Clone, Copy)]
-pub enum Kept {
-    Whole(usize),
-    TooLong,
-}
+// None of a line.
+const NOTHING: Kept = Kept::Whole(Length { bytes: 0 });
 
 // The text of a line's answer: of no call, if the line is too long.
 fn print(store: &mut [u8], lists: &mut [u8], line: &[u8], kept: Kept, out: &mut [u8]) -> usize
-    requires { Ordered lists.old × (answer_room ≤ length out.old) × (line_room ≤ length line.now) × InRoom kept }
+    requires { Ordered lists.old × (answer_room ≤ length out.old) × (line_room ≤ length line.now) }
     ensures { Stepped (asked_in kept line.now) lists.old lists.new store.old store.new out.old out.new result }
 {
     match kept {
-        Kept::Whole(len) => answering::answers::answer_line(store, lists, &line[..len], out),
+        Kept::Whole(len) => answering::answers::answer_line(store, lists, &line[..len.bytes], out),
         Kept::TooLong => printing::numbers::unreadable(out),
     }
 }
@@ -62,7 +61,7 @@ fn answer<W: Write>(
     kept: Kept,
     out: &mut [u8],
 ) -> usize
-    requires { Ordered lists.old × (answer_room ≤ length out.old) × (line_room ≤ length line.now) × InRoom kept }
+    requires { Ordered lists.old × (answer_room ≤ length out.old) × (line_room ≤ length line.now) }
     ensures { Said (asked_in kept line.now) lists.old lists.new store.old store.new out.new result }
 {
     let n = print(store, lists, line, kept, out);
@@ -82,23 +81,25 @@ fn take<W: Write>(
     kept: Kept,
     b: u8,
 ) -> Kept
-    requires { Ordered lists.old × (line_room ≤ length line.old) × (answer_room ≤ length out.old) × InRoom kept }
-    ensures ordered { Ordered lists.new × InRoom result }
+    requires { Ordered lists.old × (line_room ≤ length line.old) × (answer_room ≤ length out.old) }
+    ensures ordered { Ordered lists.new }
     ensures took { OfHeld kept line.old store.old lists.old
         (λ p. Took p b result line.new store.new lists.new out.new) }
 {
     if b == b'\n' {
         answer(output, store, lists, line, kept, out);
-        return Kept::Whole(0);
+        return NOTHING;
     }
     let Kept::Whole(len) = kept else {
         return kept;
     };
-    if len == LINE {
+    if len.bytes == LINE {
         return Kept::TooLong;
     }
-    line[len] = b;
-    Kept::Whole(len + 1)
+    line[len.bytes] = b;
+    Kept::Whole(Length {
+        bytes: len.bytes + 1,
+    })
 }
 
 fn take_all<W: Write>(
@@ -110,8 +111,8 @@ fn take_all<W: Write>(
     kept: Kept,
     bytes: &[u8],
 ) -> Kept
-    requires { Ordered lists.old × (line_room ≤ length line.old) × (answer_room ≤ length out.old) × InRoom kept }
-    ensures ordered { Ordered lists.new × InRoom result }
+    requires { Ordered lists.old × (line_room ≤ length line.old) × (answer_room ≤ length out.old) }
+    ensures ordered { Ordered lists.new }
     ensures took { OfHeld kept line.old store.old lists.old
         (λ p. TookAll p bytes.now result line.new store.new lists.new) }
 {
@@ -132,8 +133,8 @@ fn read_some<R: Read, W: Write>(
     out: &mut [u8],
     kept: Kept,
 ) -> Option<Kept>
-    requires { Ordered lists.old × (line_room ≤ length line.old) × (answer_room ≤ length out.old) × InRoom kept }
-    ensures ordered { Ordered lists.new × InRoom (unwrap_or result kept) }
+    requires { Ordered lists.old × (line_room ≤ length line.old) × (answer_room ≤ length out.old) }
+    ensures ordered { Ordered lists.new }
     ensures took { OfHeld kept line.old store.old lists.old
         (λ p. TookSome p (unwrap_or result kept) line.new store.new lists.new) }
 {
@@ -155,12 +156,11 @@ fn read_lines<R: Read, W: Write>(
     out: &mut [u8],
 ) -> Kept
     requires { Ordered lists.old × (kept_lists lists.old ≡ no_lists) × (line_room ≤ length line.old) × (answer_room ≤ length out.old) }
-    ensures ordered { Ordered lists.new × InRoom result }
+    ensures ordered { Ordered lists.new }
     ensures took { TookSome (started store.old) result line.new store.new lists.new }
 {
-    let mut kept = Kept::Whole(0);
-    let mut turns = u64::MAX;
-    while turns > 0 {
+    let mut kept = NOTHING;
+    for _ in 0..u64::MAX {
         let Some(now) = read_some(input, output, store, lists, line, out, kept) else {
             return kept;
         };
@@ -168,9 +168,18 @@ fn read_lines<R: Read, W: Write>(
         if output.flush().is_err() {
             return kept;
         }
-        turns -= 1;
     }
     kept
+}
+
+// Whether bytes came behind the last line feed.
+fn has_line(kept: Kept) -> bool
+    ensures { result ≡ has_line kept }
+{
+    match kept {
+        Kept::Whole(len) => len.bytes > 0,
+        Kept::TooLong => true,
+    }
 }
 
 // The end of the input: a last line may lack its line feed.
@@ -182,14 +191,11 @@ fn end<W: Write>(
     out: &mut [u8],
     kept: Kept,
 )
-    requires { Ordered lists.old × (line_room ≤ length line.now) × (answer_room ≤ length out.old) × InRoom kept }
+    requires { Ordered lists.old × (line_room ≤ length line.now) × (answer_room ≤ length out.old) }
     ensures { OfHeld kept line.now store.old lists.old (λ p. Ended p store.new out.new) }
 {
-    match kept {
-        Kept::Whole(0) => {}
-        _ => {
-            answer(output, store, lists, line, kept, out);
-        }
+    if has_line(kept) {
+        answer(output, store, lists, line, kept, out);
     }
 }
 

@@ -4,6 +4,7 @@
 #![tactic(auto)]
 
 mod input;
+mod kept;
 mod output;
 
 use output::Output;
@@ -20,7 +21,7 @@ fn main(rt: HostRuntime) -> ExitCode {
     let mut lists = input::list_buffer();
     let mut line = input::line_buffer();
     let mut out = input::out_buffer();
-    let mut output = Output::new(rt.stdout());
+    let mut output = Output::from(rt.stdout());
     input::run(
         &mut rt.stdin(),
         &mut output,

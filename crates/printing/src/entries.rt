@@ -56,6 +56,7 @@ pub fn put_number(out: &mut [u8], at: usize, n: u64) -> usize
     put_decimal(out, from, n)
 }
 
+// Two literals: a digit that is made of the bool would be proved by the same two cases.
 fn put_bool(out: &mut [u8], at: usize, b: bool) -> usize
     requires { at + 2 ≤ length out.old }
     ensures { Wrote out.old out.new at (44 ∷ bool_text b) result }

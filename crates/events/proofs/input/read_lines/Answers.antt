@@ -5,122 +5,116 @@ use native.Mathlib.Omega.{arith}
 use Rattle.events.proofs.Bytewise.{took_none, nothing_held, took_more}
 use Rattle.events.proofs.input.read_lines.Goals as goal
 
-pub loop-turns-init : goal.loop-turns-init
-loop-turns-init _ c = (
+pub loop-init : goal.loop-init
+loop-init _ c = (
   refl,
   refl,
   refl,
   refl,
   c.requires.0,
-  omega arith,
   record {
     bytes = [];
     all = took_none (nothing_held c.args.line.now
-        c.args.store.now c.args.lists.now c.requires.1);
+        c.args.store.now c.args.lists.now refl c.requires.1);
   },
 )
 
 pub read_some-requires : goal.read_some-requires
 read_some-requires _ c = (
-  c.loop-turns.invariant.4,
+  c.loop.invariant.4,
   omega (
     arith,
     c.requires.2,
-    c.loop-turns.invariant.2,
+    c.loop.invariant.2,
   ),
   omega (
     arith,
     c.requires.3,
-    c.loop-turns.invariant.3,
+    c.loop.invariant.3,
   ),
-  c.loop-turns.invariant.5,
 )
 
 pub shape_of-store-in_default : goal.shape_of-store-in_default
 shape_of-store-in_default _ c = omega (
   arith,
   c.read_some.auto,
-  c.loop-turns.invariant.0,
+  c.loop.invariant.0,
 )
 
 pub shape_of-lists-in_default : goal.shape_of-lists-in_default
 shape_of-lists-in_default _ c = omega (
   arith,
   c.read_some.auto,
-  c.loop-turns.invariant.1,
+  c.loop.invariant.1,
 )
 
 pub shape_of-line-in_default : goal.shape_of-line-in_default
 shape_of-line-in_default _ c = omega (
   arith,
   c.read_some.auto,
-  c.loop-turns.invariant.2,
+  c.loop.invariant.2,
 )
 
 pub shape_of-out-in_default : goal.shape_of-out-in_default
 shape_of-out-in_default _ c = omega (
   arith,
   c.read_some.auto,
-  c.loop-turns.invariant.3,
+  c.loop.invariant.3,
 )
 
 pub returns-in_default : goal.returns-in_default
-returns-in_default _ c = let t = c.loop-turns.invariant.6 in record {
+returns-in_default _ c = let t = c.loop.invariant.5 in record {
   ordered = c.in_default.ensures.ordered;
   took = took_more t (c.in_default.ensures.took t.all.next t.all.held);
 }
 
 pub returns-then-is_err : goal.returns-then-is_err
-returns-then-is_err _ c = let t = c.loop-turns.invariant.6 in record {
+returns-then-is_err _ c = let t = c.loop.invariant.5 in record {
   ordered = c.in-Some.ensures.ordered;
   took = took_more t (c.in-Some.ensures.took t.all.next t.all.held);
 }
 
-pub loop-turns-smaller : goal.loop-turns-smaller
-loop-turns-smaller _ c = omega (arith, c.loop-turns-test.true)
-
-pub loop-turns-preserved : goal.loop-turns-preserved
-loop-turns-preserved _ c =
-    let t = c.loop-turns.invariant.6 in (
+pub loop-preserved : goal.loop-preserved
+loop-preserved _ c =
+    let t = c.loop.invariant.5 in (
       omega (
         arith,
         c.read_some.auto,
-        c.loop-turns.invariant.0,
+        c.loop.invariant.0,
       ),
       omega (
         arith,
         c.read_some.auto,
-        c.loop-turns.invariant.1,
+        c.loop.invariant.1,
       ),
       omega (
         arith,
         c.read_some.auto,
-        c.loop-turns.invariant.2,
+        c.loop.invariant.2,
       ),
       omega (
         arith,
         c.read_some.auto,
-        c.loop-turns.invariant.3,
+        c.loop.invariant.3,
       ),
-      c.in-Some.ensures.ordered.0,
-      c.in-Some.ensures.ordered.1,
+      c.in-Some.ensures.ordered,
       took_more t (c.in-Some.ensures.took t.all.next t.all.held),
     )
 
 pub shape_of-store : goal.shape_of-store
-shape_of-store _ c = c.loop-turns.invariant.0
+shape_of-store _ c = c.loop.invariant.0
 
 pub shape_of-lists : goal.shape_of-lists
-shape_of-lists _ c = c.loop-turns.invariant.1
+shape_of-lists _ c = c.loop.invariant.1
 
 pub shape_of-line : goal.shape_of-line
-shape_of-line _ c = c.loop-turns.invariant.2
+shape_of-line _ c = c.loop.invariant.2
 
 pub shape_of-out : goal.shape_of-out
-shape_of-out _ c = c.loop-turns.invariant.3
+shape_of-out _ c = c.loop.invariant.3
 
 pub returns : goal.returns
 returns _ c = record {
-  ordered = (c.loop-turns.invariant.4, c.loop-turns.invariant.5);
-  took = c.loop-turns.invariant.6;
+  ordered = c.loop.invariant.4;
+  took = c.loop.invariant.5;
 }

@@ -2,14 +2,10 @@
 use mathlib.Core.Path.{◌≡◌}
 use lib.ListN.{length}
 use Rattle.keeping.specs.Lists.{Ordered}
-use Rattle.events.specs.Input.{InRoom, started, TookSome}
+use Rattle.events.specs.Input.{started, TookSome}
 use Rattle.events.proofs.input.read_lines.Given as goal
 
-abbrev pub invariant-loop-turns : goal.invariant-loop-turns
-invariant-loop-turns _ l =
+abbrev pub invariant-loop : goal.invariant-loop
+invariant-loop _ l =
     (length l.store ≡ length l.initial.store) × (length l.lists ≡ length l.initial.lists) × (length l.line ≡ length l.initial.line) × (length l.out ≡ length l.initial.out) × Ordered l.lists
-    × InRoom l.kept
     × TookSome (started l.initial.store) l.kept l.line l.store l.lists
-
-abbrev pub decreases-loop-turns : goal.decreases-loop-turns
-decreases-loop-turns _ l = l.turns

@@ -5,7 +5,7 @@ use Rattle.events.proofs.input.read_some.Goals as goal
 
 pub returns-then-n-eq0 : goal.returns-then-n-eq0
 returns-then-n-eq0 _ c = record {
-  ordered = (c.requires.0, c.requires.3);
+  ordered = c.requires.0;
   took = λ p g. record { bytes = []; all = took_none g };
 }
 
@@ -14,7 +14,6 @@ take_all-requires _ c = (
   c.requires.0,
   c.requires.1,
   c.requires.2,
-  c.requires.3,
 )
 
 pub returns : goal.returns

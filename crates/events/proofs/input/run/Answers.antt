@@ -13,7 +13,7 @@ read_lines-last-requires _ c = (
 
 pub end-requires : goal.end-requires
 end-requires _ c = (
-  c.read_lines-last.ensures.ordered.0,
+  c.read_lines-last.ensures.ordered,
   omega (
     arith,
     c.requires.1,
@@ -24,7 +24,6 @@ end-requires _ c = (
     c.requires.2,
     c.read_lines-last.auto,
   ),
-  c.read_lines-last.ensures.ordered.1,
 )
 
 pub shape_of-store : goal.shape_of-store

@@ -1,12 +1,13 @@
 -- `events::input::take` meets its contract: the byte is read.
+use mathlib.Core.Path.{refl}
 use native.Mathlib.Omega.{arith}
 use Rattle.events.proofs.Bytewise.{took_feed, took_longer, took_over, took_byte}
 use Rattle.events.proofs.input.take.Goals as goal
 
 pub returns-then-b-eq10 : goal.returns-then-b-eq10
 returns-then-b-eq10 _ c = record {
-  ordered = (c.answer.ensures.order, omega arith);
-  took = λ p g. took_feed g c.if-b-eq10.true c.answer.ensures;
+  ordered = c.answer.ensures.order;
+  took = λ p g. took_feed g c.if-b-eq10.true refl c.answer.ensures;
 }
 
 pub returns-in_default-clause-took : goal.returns-in_default-clause-took
@@ -14,10 +15,10 @@ returns-in_default-clause-took _ c = λ p g. took_longer c.args.kept c.in_defaul
 
 pub returns-then-len-eq-LINE : goal.returns-then-len-eq-LINE
 returns-then-len-eq-LINE _ c = record {
-  ordered = (c.requires.0, tt);
+  ordered = c.requires.0;
   took = λ p g. took_over (rw c.in-Whole.is at g) c.if-b-eq10.false c.if-len-eq-LINE.true;
 }
 
 pub returns-clause-took : goal.returns-clause-took
 returns-clause-took _ c = λ p g. took_byte (rw c.in-Whole.is at g)
-    c.if-b-eq10.false (let r = rw c.in-Whole.is at c.requires.3 in omega (arith, r, c.if-len-eq-LINE.false)) c.requires.1
+    c.if-b-eq10.false refl (omega (arith, c.in-Whole.len.in_room, c.if-len-eq-LINE.false)) c.requires.1

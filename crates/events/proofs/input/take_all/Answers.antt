@@ -5,14 +5,13 @@ use Rattle.events.proofs.Bytewise.{took_none, took_one, take_next, took_whole}
 use Rattle.events.proofs.input.take_all.Goals as goal
 
 pub loop-b-init : goal.loop-b-init
-loop-b-init _ c = (refl, refl, refl, refl, c.requires.0, c.requires.3, omega arith, λ p g. took_none g)
+loop-b-init _ c = (refl, refl, refl, refl, c.requires.0, omega arith, λ p g. took_none g)
 
 pub take-now-requires : goal.take-now-requires
 take-now-requires _ c = (
   c.loop-b.invariant.4,
   omega (arith, c.requires.1, c.loop-b.invariant.2),
   omega (arith, c.requires.2, c.loop-b.invariant.3),
-  c.loop-b.invariant.5,
 )
 
 pub loop-b-preserved : goal.loop-b-preserved
@@ -37,10 +36,9 @@ loop-b-preserved _ c = (
     c.take-now.auto,
     c.loop-b.invariant.3,
   ),
-  c.take-now.ensures.ordered.0,
-  c.take-now.ensures.ordered.1,
+  c.take-now.ensures.ordered,
   omega arith,
-  λ p g. let t = c.loop-b.invariant.7 p g in
+  λ p g. let t = c.loop-b.invariant.6 p g in
       took_one t (c.take-now.ensures.took t.next t.held) (take_next
       c.args.bytes.now
       c.loop-b.b-index (omega arith)),
@@ -60,6 +58,6 @@ shape_of-out _ c = c.loop-b.invariant.3
 
 pub returns : goal.returns
 returns _ c = record {
-  ordered = (c.loop-b.invariant.4, c.loop-b.invariant.5);
-  took = λ p g. took_whole c.loop-b.b-index (omega arith) (c.loop-b.invariant.7 p g);
+  ordered = c.loop-b.invariant.4;
+  took = λ p g. took_whole c.loop-b.b-index (omega arith) (c.loop-b.invariant.6 p g);
 }
