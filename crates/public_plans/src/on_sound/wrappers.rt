@@ -8,8 +8,6 @@ ghost use Rattle.store.specs.Image.{SoundStore};
 ghost use Rattle.outcome.specs.Outcome.{Leaves, LeavesWith};
 ghost use Rattle.outcome.specs.Reply.{reply_of, listing_of};
 
-use ident::connection::Connection;
-use machine::clock::Clock;
 use machine::limits::MAX_PARENTS;
 use outcome::{Refusal, refusals};
 
@@ -25,12 +23,12 @@ pub fn announce_transactions(
     requires { SoundStore s.old }
     ensures { Leaves (On (AnnounceTransactions connection clock preferred source (offers_in items.now priorities.now))) s.old s.new (reply_of result) }
 {
-    refusals::of_connection_and_clock(connection, clock)?;
+    let (connection, clock) = refusals::of_connection_and_clock(connection, clock)?;
     let n = refusals::need_of(s);
     wrapping::offering::announce_transactions(
         &mut s[..n],
-        Connection { number: connection },
-        Clock { time: clock },
+        connection,
+        clock,
         preferred,
         source,
         items,
@@ -76,13 +74,13 @@ pub fn transaction_not_found(
     ensures { LeavesWith (On (TransactionNotFound connection (items_in items.now) clock answer.old)) s.old s.new answer.new (listing_of result) }
 {
     let needs = missing_needs(s, items);
-    refusals::in_turn(connection, clock, 0, answer.len(), needs)?;
+    let (connection, clock) = refusals::in_turn(connection, clock, 0, answer.len(), needs)?;
     let n = refusals::need_of(s);
     let listed = wrapping::missing::transaction_not_found(
         &mut s[..n],
-        Connection { number: connection },
+        connection,
         items,
-        clock,
+        clock.time,
         answer,
     );
     Ok(listed as u64)

@@ -6,7 +6,6 @@ ghost use Rattle.store.specs.Image.{SoundStore};
 ghost use Rattle.outcome.specs.Outcome.{Leaves, LeavesWith};
 ghost use Rattle.outcome.specs.Reply.{reply_of, listing_of};
 
-use ident::connection::Connection;
 use outcome::{Refusal, refusals, replied};
 
 pub fn announce(s: &mut [u8], c: requests::Candidate) -> Result<u64, Refusal>
@@ -38,7 +37,7 @@ pub fn announce_parents(
     ensures { LeavesWith (On (AnnounceParents connection (hashes_in parents.now) clock answer.old)) s.old s.new answer.new (listing_of result) }
 {
     let count = lent_lists::hashes(parents);
-    refusals::in_turn(
+    let (connection, clock) = refusals::in_turn(
         connection,
         clock,
         count,
@@ -48,8 +47,8 @@ pub fn announce_parents(
     let n = refusals::need_of(s);
     let listed = announcing::parents::announce_parents(
         &mut s[..n],
-        Connection { number: connection },
-        clock,
+        connection,
+        clock.time,
         parents,
         answer,
     );

@@ -5,7 +5,6 @@ ghost use Rattle.store.specs.Image.{SoundStore};
 ghost use Rattle.outcome.specs.Outcome.{Leaves, LeavesWith};
 ghost use Rattle.outcome.specs.Reply.{reply_of, listing_of};
 
-use ident::connection::Connection;
 use outcome::{Refusal, refusals, replied};
 
 pub fn failed(s: &mut [u8], key: ident::Key, connection: u64, clock: u64) -> Result<u64, Refusal>
@@ -27,15 +26,15 @@ pub fn failed_with_parents(
     requires { SoundStore s.old }
     ensures { LeavesWith (On (FailedWithParents (key_num key) connection clock answer.old)) s.old s.new answer.new (listing_of result) }
 {
-    refusals::in_turn(connection, clock, 0, answer.len(), refusals::KEYS_ANSWER)?;
-    let n = refusals::need_of(s);
-    let listed = failing::failed_with_parents(
-        &mut s[..n],
-        key,
-        Connection { number: connection },
+    let (connection, clock) = refusals::in_turn(
+        connection,
         clock,
-        answer,
-    );
+        0,
+        answer.len(),
+        refusals::KEYS_ANSWER,
+    )?;
+    let n = refusals::need_of(s);
+    let listed = failing::failed_with_parents(&mut s[..n], key, connection, clock.time, answer);
     Ok(listed as u64)
 }
 

@@ -9,17 +9,14 @@ use Rattle.outcome.proofs.ListedKeys.{missing-typed}
 use Rattle.public_plans.proofs.Instances.{misses}
 use Rattle.public_plans.proofs.on_sound.wrappers.transaction_not_found.Goals as goal
 
-pub returns-in_err-in_turn : goal.returns-in_err-in_turn
-returns-in_err-in_turn c =
-    rw (hands-on _ c.from_residual.ensures.1) (refused (misses _ _ _ _).names c.requires _ (sized _ _ _ _ c.in_err-in_turn.ensures.test (c.missing_needs-needs.ensures c.requires)))
-
-pub invariant_of-transaction_not_found : goal.invariant_of-transaction_not_found
-invariant_of-transaction_not_found c = record { positive = some_connection _ (passed c.in_ok-in_turn.ensures.test).connections }
+pub returns-in_err-connection : goal.returns-in_err-connection
+returns-in_err-connection c =
+    rw (hands-on _ c.from_residual.ensures.1) (refused (misses _ _ _ _).names c.requires _ (sized _ _ _ _ c.in_err-connection.ensures.test (c.missing_needs-needs.ensures c.requires)))
 
 pub transaction_not_found-listed-requires : goal.transaction_not_found-listed-requires
 transaction_not_found-listed-requires c =
     let w = c.requires in
-    let p = passed c.in_ok-in_turn.ensures.test in
+    let p = passed c.in_ok-connection.ensures.test in
     let e = c.need_of-n.ensures in
     (e.kept, omega (arith, p.room, c.missing_needs-needs.ensures w, front_places w e))
 
@@ -27,12 +24,12 @@ pub returns : goal.returns
 returns c =
     let w = c.requires in
     let a = c.args in
-    let q = sized _ _ _ _ c.in_ok-in_turn.ensures.test
+    let q = sized _ _ _ _ c.in_ok-connection.ensures.test
     (c.missing_needs-needs.ensures w) in
     let peer : Peer a.connection = record
-    { positive = some_connection _ (passed c.in_ok-in_turn.ensures.test).connections; small = omega arith } in
+    { positive = some_connection _ (passed c.in_ok-connection.ensures.test).connections; small = omega arith } in
     let fit = items-fit a.items.now
     (λ i. omega (arith, c.type_inv.items i)) in
     let typed = missing-typed w.state w.sound _ a.clock _ peer (omega arith) fit in
     lists_done (misses _ _ _ _) w q c.need_of-n.ensures (λ i. omega (arith, c.type_inv.s i)) typed
-    c.transaction_not_found-listed.ensures
+    (rw (c.in_ok-connection.ensures.given.0, c.in_ok-connection.ensures.given.1) at c.transaction_not_found-listed.ensures)
