@@ -6,7 +6,6 @@ ghost use Rattle.store.specs.Image.{SoundStore};
 ghost use Rattle.outcome.specs.Outcome.{LeavesWith};
 ghost use Rattle.outcome.specs.Reply.{departure_of};
 
-use ident::connection::Connection;
 use machine::limits::MAX_PARENTS;
 use outcome::{Departure, Refusal, refusals};
 
@@ -44,14 +43,9 @@ pub fn disconnected(
     ensures { LeavesWith (On (Disconnected connection clock answer.old)) s.old s.new answer.new (departure_of result) }
 {
     let needs = departure_needs(s);
-    refusals::in_turn(connection, clock, 0, answer.len(), needs)?;
+    let (connection, clock) = refusals::in_turn(connection, clock, 0, answer.len(), needs)?;
     let n = refusals::need_of(s);
-    let left = leaving::disconnected(
-        &mut s[..n],
-        Connection { number: connection },
-        clock,
-        answer,
-    );
+    let left = leaving::disconnected(&mut s[..n], connection, clock.time, answer);
     Ok(Departure {
         own: left.own as u64,
         parents: left.parents as u64,

@@ -6,7 +6,6 @@ ghost use Rattle.store.specs.Image.{SoundStore};
 ghost use Rattle.outcome.specs.Outcome.{Leaves, LeavesWith};
 ghost use Rattle.outcome.specs.Reply.{reply_of, listing_of};
 
-use ident::connection::Connection;
 use outcome::{Refusal, refusals, replied};
 
 pub fn claim_package(
@@ -65,14 +64,14 @@ pub fn release_package(
     requires { SoundStore s.old }
     ensures { LeavesWith (On (ReleasePackage connection (hash_num subject.0) clock answer.old)) s.old s.new answer.new (listing_of result) }
 {
-    refusals::in_turn(connection, clock, 0, answer.len(), refusals::KEYS_ANSWER)?;
-    let n = refusals::need_of(s);
-    let listed = failing::release_package(
-        &mut s[..n],
-        Connection { number: connection },
-        subject,
+    let (connection, clock) = refusals::in_turn(
+        connection,
         clock,
-        answer,
-    );
+        0,
+        answer.len(),
+        refusals::KEYS_ANSWER,
+    )?;
+    let n = refusals::need_of(s);
+    let listed = failing::release_package(&mut s[..n], connection, subject, clock.time, answer);
     Ok(listed as u64)
 }

@@ -8,7 +8,6 @@ ghost use Rattle.store.specs.Image.{SoundStore};
 ghost use Rattle.outcome.specs.Outcome.{Leaves, LeavesWith};
 ghost use Rattle.outcome.specs.Reply.{reply_of, listing_of};
 
-use ident::connection::Connection;
 use outcome::{Refusal, refusals};
 
 pub fn forget_known(s: &mut [u8], key: ident::Key, clock: u64) -> Result<u64, Refusal>
@@ -42,13 +41,13 @@ pub fn failed_package_claims(
         answer.new (listing_of result) }
 {
     let needs = claims_needs(s);
-    refusals::in_turn(connection, clock, 0, answer.len(), needs)?;
+    let (connection, clock) = refusals::in_turn(connection, clock, 0, answer.len(), needs)?;
     let n = refusals::need_of(s);
     let listed = claims::waiting::failed_package_claims(
         &mut s[..n],
-        Connection { number: connection },
+        connection,
         combined,
-        clock,
+        clock.time,
         answer,
     );
     Ok(listed as u64)

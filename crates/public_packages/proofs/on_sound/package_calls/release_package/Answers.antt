@@ -1,6 +1,6 @@
 -- `public_packages::on_sound::package_calls::release_package` meets its contract: an instance of crates/outcome/proofs/Carried.
 use native.Mathlib.Omega.{arith}
-use Rattle.outcome.proofs.Turns.{some_connection, passed}
+use Rattle.outcome.proofs.Turns.{passed}
 use Rattle.outcome.proofs.Exits.{hands-on}
 use Rattle.outcome.proofs.Carried.{refused, lists_done}
 use Rattle.public_packages.proofs.Instances.{releases-package}
@@ -8,16 +8,13 @@ use Rattle.soliciting.proofs.Subject.{subject_below}
 use Rattle.outcome.proofs.ListedKeys.{released_typed}
 use Rattle.public_packages.proofs.on_sound.package_calls.release_package.Goals as goal
 
-pub returns-in_err-in_turn : goal.returns-in_err-in_turn
-returns-in_err-in_turn c =
-    rw (hands-on _ c.from_residual.ensures.1) (refused (releases-package _ _ _ _).names c.requires _ c.in_err-in_turn.ensures.test)
-
-pub invariant_of-release_package : goal.invariant_of-release_package
-invariant_of-release_package c = record { positive = some_connection _ (passed c.in_ok-in_turn.ensures.test).connections }
+pub returns-in_err-connection : goal.returns-in_err-connection
+returns-in_err-connection c =
+    rw (hands-on _ c.from_residual.ensures.1) (refused (releases-package _ _ _ _).names c.requires _ c.in_err-connection.ensures.test)
 
 pub release_package-listed-requires : goal.release_package-listed-requires
 release_package-listed-requires c =
-    let p = passed c.in_ok-in_turn.ensures.test in
+    let p = passed c.in_ok-connection.ensures.test in
     (c.need_of-n.ensures.kept, omega (arith, p.room))
 
 pub returns : goal.returns
@@ -27,5 +24,5 @@ returns c =
     (subject_below c.args.subject
     c.well_formed.1.1.0) in
     lists_done (releases-package _ _ _ _) c.requires
-    c.in_ok-in_turn.ensures.test c.need_of-n.ensures
-    (λ i. omega (arith, c.type_inv.s i)) k c.release_package-listed.ensures
+    c.in_ok-connection.ensures.test c.need_of-n.ensures
+    (λ i. omega (arith, c.type_inv.s i)) k (rw (c.in_ok-connection.ensures.given.0, c.in_ok-connection.ensures.given.1) at c.release_package-listed.ensures)
