@@ -1,5 +1,5 @@
 // solicit_package_info, failed_package_info and package_info_owner on a sound store.
-ghost use Rattle.std.specs.Prelude.{◌≡◌, true, List, ℕ, length};
+ghost use Rattle.std.specs.Prelude.{◌≡◌, true, List, ℕ, length, IfOk};
 ghost use Rattle.ident.specs.Words.{hash_num, key_num};
 ghost use Rattle.machine.specs.State.{State, limits_of};
 ghost use Rattle.machine.specs.Sound.{Sound};
@@ -35,20 +35,22 @@ fn of_place(s: &[u8], connection: u64, subject: ident::Wtxid, clock: u64) -> Res
     Err(Refusal::NoPlace)
 }
 
-// Tests 4 to 8 of a solicitation with so many parents.
+// Tests 4 to 8 of a solicitation with so many parents, and what they have tested.
 fn of_solicitation(
     s: &[u8],
     connection: u64,
     subject: ident::Wtxid,
     count: usize,
     clock: u64,
-) -> Result<(), Refusal>
+) -> Result<(Connection, Clock), Refusal>
     requires { SoundStore s.now }
-    ensures { (w : SoundStore s.now) (hs : List ℕ) → count ≡ length hs → refusal_in result ≡ ask_refusal true (SolicitPackageInfo connection (hash_num subject.0) hs clock) w.state }
+    ensures test { (w : SoundStore s.now) (hs : List ℕ) → count ≡ length hs → refusal_in result ≡ ask_refusal true (SolicitPackageInfo connection (hash_num subject.0) hs clock) w.state }
+    ensures given { IfOk result (λ named. (named.0.number ≡ connection) × (named.1.time ≡ clock)) }
 {
-    refusals::in_turn(connection, clock, count, 0, 0)?;
+    let named = refusals::in_turn(connection, clock, count, 0, 0)?;
     let n = refusals::need_of(s);
-    of_place(&s[..n], connection, subject, clock)
+    of_place(&s[..n], connection, subject, clock)?;
+    Ok(named)
 }
 
 pub fn solicit_package_info(
@@ -62,14 +64,14 @@ pub fn solicit_package_info(
     ensures { Leaves (On (SolicitPackageInfo connection (hash_num subject.0) (hashes_in parents.now) clock)) s.old s.new (reply_of result) }
 {
     let count = lent_lists::hashes(parents);
-    of_solicitation(s, connection, subject, count, clock)?;
+    let (connection, clock) = of_solicitation(s, connection, subject, count, clock)?;
     let n = refusals::need_of(s);
     Ok(replied(soliciting::info::solicit_package_info(
         &mut s[..n],
-        Connection { number: connection },
+        connection,
         subject,
         parents,
-        Clock { time: clock },
+        clock,
     )))
 }
 
