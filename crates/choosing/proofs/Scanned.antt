@@ -9,7 +9,7 @@ use native.Mathlib.Omega.{arith}
 use lib.Dec.{ltb, eqb}
 use lib.ListN.{length, get_or}
 use lib.Seq.{drop-cons}
-use borrow.Author.Tests.{lt-ltb, le-ltb, lt-leb, le-leb, eq-eqb, ne_eqb, eqb-true, eqb-false}
+use borrow.Author.Tests.{lt-ltb, le-ltb, lt-leb, le-leb, eq-eqb, ne_eqb, eqb-true, eqb-false, ltb-true, ltb-false}
 use Rattle.std.specs.Prelude.{if◌then◌else◌}
 use Rattle.regions.specs.declared.Row.{Row}
 use Rattle.machine.specs.Limits.{max_in_flight}
@@ -45,6 +45,12 @@ module _ (a b : Row) where
   pub sooner-bits : (a.bits / 4 % 2 ≡ b.bits / 4 % 2 → ⊥) → ltb (b.bits / 4 % 2) (a.bits / 4 % 2) ≡ sooner (candidate_at a) (candidate_at b)
   unfolding sooner candidate_at
   sooner-bits n = bits-differ (a.bits / 4 % 2) (b.bits / 4 % 2) (ltb a.prio b.prio) (omega arith) (omega arith) n
+
+  pub unpreferred : ltb (1 - a.bits / 4 % 2) (1 - b.bits / 4 % 2) ≡ ltb (b.bits / 4 % 2) (a.bits / 4 % 2)
+  unpreferred = elim (test (ltb (b.bits / 4 % 2) (a.bits / 4 % 2))) [
+    | inl t ↦ rw t (lt-ltb (1 - a.bits / 4 % 2) (1 - b.bits / 4 % 2) (omega (arith, ltb-true (b.bits / 4 % 2) (a.bits / 4 % 2) t)))
+    | inr t ↦ rw t (le-ltb (1 - a.bits / 4 % 2) (1 - b.bits / 4 % 2) (omega (arith, ltb-false (b.bits / 4 % 2) (a.bits / 4 % 2) t)))
+  ]
 
   pub sooner-prio : a.bits / 4 % 2 ≡ b.bits / 4 % 2 → ltb a.prio b.prio ≡ sooner (candidate_at a) (candidate_at b)
   unfolding sooner candidate_at
@@ -85,15 +91,6 @@ else_first r o e = e
 pub else-second : (o : Option Entry) → o ≡ or_else none o
 unfolding or_else
 else-second o = refl
-
--- ---- one row more
-
-module _ (p : Candidate → Bool) (r : Row) {x : Bool} (f : x ≡ p (candidate_at r)) (o : Option Entry) where
-  pub row-able : {v : Option Entry} → x ≡ true → v ≡ better (entry_at r) o → v ≡ with_row p r o
-  row-able e q = rw (sym f ∙ e) q
-
-  pub row_unable : x ≡ false → o ≡ with_row p r o
-  row_unable e = rw (sym f ∙ e) refl
 
 -- ---- a part of a list of rows
 

@@ -1,9 +1,9 @@
 -- A scan of rows for the time at which one is ready, and what the rows of a key say of it.
 use Prim.Native.Nat.{ℕ, ◌+◌, ◌-◌, ◌≤◌, ◌<◌}
-use mathlib.Core.Path.{◌≡◌, refl, sym, ap, ◌∙◌}
+use mathlib.Core.Path.{◌≡◌, refl, ap, ◌∙◌}
 use mathlib.Core.Bool.{Bool, true, false, ◌||◌}
 use mathlib.Core.List.{List, [], ◌∷◌, map}
-use mathlib.Core.Option.{Option, none}
+use mathlib.Core.Option.{Option}
 use native.Mathlib.Omega.{arith}
 use lib.Dec.{leb}
 use lib.ListN.{length, get_or}
@@ -42,13 +42,6 @@ module _ (now : ℕ) (rs : List Row) (to : ℕ) where
   waits-row {r} d i e m h f {any} k q g =
       rw (part_more rs i to d m h, ← f, ← e)
       (record { ready = ap (λ (b : Bool). leb r.ready now || b) k.ready; least = g ∙ rw (q, k.least) refl })
-
-module _ {now : ℕ} (rs : List Row) (to : ℕ) {i from : ℕ} {any : Bool} {w : rust.Option ℕ} (k : Waits now (part i to rs) any w) (all : i ≡ from) where
-  pub waits-ready : any ≡ true → none ≡ wait_in now (map candidate_at (part from to rs))
-  waits-ready e = rw (← all) (rw (sym k.ready ∙ e) refl)
-
-  pub waits_till : any ≡ false → option_of w ≡ wait_in now (map candidate_at (part from to rs))
-  waits_till e = rw (← all) (rw (sym k.ready ∙ e) k.least)
 
 -- ---- the rows of a key
 

@@ -4,15 +4,15 @@
 // The rows of a key are scanned from the last to the first, so that what has been found is the choice among the rows from here on.
 #![tactic(auto)]
 
-ghost use Rattle.std.specs.Prelude.{◌≡◌, [], ◌≤◌};
+ghost use Rattle.std.specs.Prelude.{◌≡◌, [], ◌-◌, ◌/◌, ◌%◌, ◌≤◌};
 ghost use Rattle.ident.specs.Words.{hash_num};
 ghost use Rattle.machine.specs.Plan as machine;
-ghost use Rattle.store.specs.Flat.{Flat, rows_of};
+ghost use Rattle.store.specs.Flat.{Flat};
 ghost use Rattle.store.specs.Gather.{candidate_at};
 ghost use Rattle.store.specs.Image.{Shows};
 ghost use Rattle.store.specs.Shown.{rows_in, Shown, Kept};
 ghost use Rattle.requests.specs.Changes.{Tells};
-ghost use Rattle.announcing.specs.Evicts.{entry_at, part};
+ghost use Rattle.announcing.specs.Evicts.{part};
 ghost use Rattle.choosing.specs.Choosing.{any_owns, Better, WithRow, Least, Either, Choice, WindowAs, Chooses};
 
 use machine::limits::MAX_PEER_IN_FLIGHT;
@@ -35,16 +35,18 @@ pub struct Chosen {
 
 // ---- one row
 
-// Whether a comes before b by (unpreferred, priority).
+// By what the least is chosen: (unpreferred, priority).
+fn rank(r: regions::Row) -> (u64, u64)
+    ensures { (result.0 ≡ 1 - r.bits / 4 % 2) × (result.1 ≡ r.prio) }
+{
+    (1 - r.bits / 4 % 2, r.prio)
+}
+
+// Whether a comes before b. (A derived order of rows would compare all that a row has.)
 fn sooner(a: regions::Row, b: regions::Row) -> bool
     ensures { result ≡ machine.sooner (candidate_at a) (candidate_at b) }
 {
-    let x = a.bits / 4 % 2;
-    let y = b.bits / 4 % 2;
-    if x != y {
-        return y < x;
-    }
-    a.prio < b.prio
+    rank(a) < rank(b)
 }
 
 // Whether a row's candidate is ready, and its connection owns fewer requests than it may.
@@ -83,25 +85,25 @@ fn with_row(s: &[u8], clock: u64, r: regions::Row, i: usize, best: Option<Pick>)
 
 // ---- the rows of a key
 
-// The choice among the rows from .. to.
-fn least_in(s: &[u8], clock: u64, from: usize, to: usize) -> Option<Pick>
-    requires { Kept s.now × (from ≤ to) × (to ≤ rows_in s.now) }
-    ensures { Least s.now clock from to result }
+// The choice among the rows of x.
+fn least_in(s: &[u8], clock: u64, x: requests::Window) -> Option<Pick>
+    requires { Kept s.now × (x.to ≤ rows_in s.now) }
+    ensures { Least s.now clock x.from x.to result }
 {
     let mut v = None;
-    for i in (from..to).rev() {
+    for i in (x.from..x.to).rev() {
         let r = store::rows::row_at(s, i);
         v = with_row(s, clock, r, i, v);
     }
     v
 }
 
-// Whether one of the rows from .. to owns its request.
-fn owned_in(s: &[u8], from: usize, to: usize) -> bool
-    requires { Shown s.now × (from ≤ to) × (to ≤ rows_in s.now) }
-    ensures { (f : Flat) → Shows s.now f → result ≡ any_owns (part from to f.rows) }
+// Whether one of the rows of x owns its request.
+fn owned_in(s: &[u8], x: requests::Window) -> bool
+    requires { Shown s.now × (x.to ≤ rows_in s.now) }
+    ensures { (f : Flat) → Shows s.now f → result ≡ any_owns (part x.from x.to f.rows) }
 {
-    for i in from..to {
+    for i in x.from..x.to {
         let r = store::rows::row_at(s, i);
         if r.bits / 8 % 2 == 1 {
             return true;
@@ -124,19 +126,19 @@ fn either(a: Option<Pick>, b: Option<Pick>) -> Option<Pick>
 
 // What a plan chooses for the hash whose rows stand in x as Txid and in y as Wtxid, if nobody owns it. Where no row of a key is ready, when one will be.
 pub fn choose_within(s: &[u8], clock: u64, x: requests::Window, y: requests::Window) -> Chosen
-    requires { Kept s.now × ((x.from ≤ x.to) × (x.to ≤ rows_in s.now)) × ((y.from ≤ y.to) × (y.to ≤ rows_in s.now)) }
+    requires { Kept s.now × (x.to ≤ rows_in s.now) × (y.to ≤ rows_in s.now) }
     ensures { Choice s.now clock x y result }
 {
-    if owned_in(s, x.from, x.to) || owned_in(s, y.from, y.to) {
+    if owned_in(s, x) || owned_in(s, y) {
         return Chosen {
             pick: None,
             wait: None,
         };
     }
-    let p = least_in(s, clock, x.from, x.to);
-    let q = least_in(s, clock, y.from, y.to);
-    let a = later::wait_in(s, clock, x.from, x.to);
-    let b = later::wait_in(s, clock, y.from, y.to);
+    let p = least_in(s, clock, x);
+    let q = least_in(s, clock, y);
+    let a = later::wait_in(s, clock, x);
+    let b = later::wait_in(s, clock, y);
     Chosen {
         pick: either(p, q),
         wait: later::earlier(a, b),

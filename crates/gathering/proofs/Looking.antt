@@ -3,7 +3,6 @@ use Prim.Native.Nat.{ℕ, ◌+◌, ◌≤◌, ◌<◌}
 use mathlib.Core.Path.{◌≡◌, sym, ap, subst, ◌∙◌}
 use mathlib.Core.Bool.{Bool, true, false, ◌||◌}
 use mathlib.Core.List.{List, []}
-use native.Mathlib.Nat.{add-zero}
 use native.Mathlib.Omega.{arith}
 use lib.Dec.{ltb}
 use lib.ListN.{length}
@@ -22,9 +21,9 @@ use Rattle.gathering.specs.Aside.{space, numbered, KeyIn, PutIn, Aside, WaitsAt}
 use Rattle.gathering.proofs.ComingIn.{length-gathered}
 use Rattle.gathering.proofs.InOrder.{sorted-gathered, put-placed, numbered_is, waits_is}
 
-pub key_in_lem : {w : List ℕ} {m i j : ℕ} (x : ℕ) → Sought (recs row_size row_key m w) m (x + 0) i → Sought (recs row_size row_key m w) m (x + 1) j → KeyIn w m x (ltb i j)
+pub key_in_lem : {w : List ℕ} {m i j : ℕ} (x : ℕ) → Sought (recs row_size row_key m w) m x i → Sought (recs row_size row_key m w) m (x + 1) j → KeyIn w m x (ltb i j)
 key_in_lem x a b L ys e l s h =
-    numbered_is x ys (rw (add-zero x) at (row_sought L ys (omega arith) h (sym e) a s)) (row_sought L ys (omega arith) h (sym e) b s)
+    numbered_is x ys (row_sought L ys (omega arith) h (sym e) a s) (row_sought L ys (omega arith) h (sym e) b s)
 
 pub row_put : {w w' : List ℕ} {m i : ℕ} {y : Row} {k : RowKey} → k ≡ key_of y → Sought (recs row_size row_key m w) m (key_number k + 1) i → Inserted row_size row_words w w' m i y → PutIn w w' m y
 row_put {w} {w'} {m} {i} {y} {k} q a p L ys e l s h =

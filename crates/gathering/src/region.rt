@@ -5,6 +5,8 @@ ghost use Rattle.words.specs.Words.{words};
 ghost use Rattle.regions.specs.Rows.{row_size, key_number};
 ghost use Rattle.gathering.specs.Aside.{space, Empty, KeyIn, PutIn, WaitsAt};
 
+use std::ops::Bound;
+
 // Words of the region.
 const WORDS: usize = 4_608;
 
@@ -32,8 +34,8 @@ impl<'a> Rows<'a> {
     fn has_key(self, k: regions::Key) -> bool
         ensures { KeyIn (words self.entry.bytes.now) self.entry.count (key_number k) result }
     {
-        let from = regions::seek_row(self.bytes, self.count, k, false);
-        let to = regions::seek_row(self.bytes, self.count, k, true);
+        let from = regions::seek_row(self.bytes, self.count, Bound::Included(k));
+        let to = regions::seek_row(self.bytes, self.count, Bound::Excluded(k));
         from < to
     }
 
@@ -54,6 +56,6 @@ pub fn put_in(new: &mut [u8], m: usize, y: regions::Row)
     ensures { PutIn (words new.old) (words new.new) m y }
 {
     let k = announcing::evict::row_key(y);
-    let i = regions::seek_row(new, m, k, true);
+    let i = regions::seek_row(new, m, Bound::Excluded(k));
     regions::insert(new, m, i, y);
 }

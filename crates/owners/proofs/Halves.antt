@@ -2,7 +2,6 @@
 use Prim.Native.Nat.{ℕ, suc, ◌+◌, ◌-◌, ◌≤◌, ◌<◌}
 use mathlib.Core.Path.{◌≡◌, refl, sym, ap, subst, ◌∙◌}
 use mathlib.Core.Logic.{inl, inr}
-use mathlib.Core.Bool.{false}
 use mathlib.Core.List.{List, [], ◌∷◌, ◌++◌, map}
 use native.Mathlib.Nat.{le_refl}
 use native.Mathlib.Omega.{arith}
@@ -16,7 +15,7 @@ use Rattle.words.specs.Words.{number}
 use Rattle.regions.specs.declared.Row.{Row}
 use Rattle.regions.specs.declared.Key.{Key as RowKey}
 use Rattle.regions.specs.Regions.{each}
-use Rattle.regions.specs.Order.{Bound, one as first}
+use Rattle.regions.specs.Order.{Bound}
 use Rattle.regions.specs.Rows.{key_number}
 use Rattle.machine.specs.State.{Candidate, Request, Table, State}
 use Rattle.machine.specs.Table.{at, keys}
@@ -90,7 +89,7 @@ up_tables g (q ∷ a) b = omega (arith, up_tables g a b)
 abbrev pub first_wtxid : RowKey
 first_wtxid = record { kind = 1; hash = record { w0 = 0; w1 = 0; w2 = 0; w3 = 0 } }
 
-first_top : key_number first_wtxid + first false ≡ top
+first_top : key_number first_wtxid ≡ top
 unfolding key_number number top
 first_top = refl
 
@@ -148,7 +147,7 @@ module _ (st : State) (s : Sound st) {m n : ℕ} (long : n ≡ length (rows_of s
         ∙ ap (λ (x : Table). keys_up_to g (keys x)) (sym (split last_key t));
   }
 
-pub parts : {b : List ℕ} {m : ℕ} → Seek b (λ f. row_numbers f.rows) (rows_in b) (key_number first_wtxid + first false) m → Halves b m
+pub parts : {b : List ℕ} {m : ℕ} → Seek b (λ f. row_numbers f.rows) (rows_in b) (key_number first_wtxid) m → Halves b m
 parts {m = m} q = record {
   most = q.most;
   is = λ st s w. parted st s (sizes w).rows (subst (λ (y : ℕ). Bound (row_numbers (rows_of st.table)) y m) first_top (q.bound (flat_of st) w (rows_in_order st s)));

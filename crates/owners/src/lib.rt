@@ -16,6 +16,8 @@ ghost use Rattle.store.specs.Shown.{rows_in, Shown, Kept};
 ghost use Rattle.lent_lists.specs.Lists.{hashes_in};
 ghost use Rattle.owners.specs.Walk.{owner_words, Says, row_holding, Along, Halves, OwnersListed};
 
+use std::ops::Bound;
+
 pub mod list;
 
 // Words of an owner in an answer buffer.
@@ -99,7 +101,7 @@ fn first_wtxid(s: &[u8]) -> usize
         w2: 0,
         w3: 0,
     };
-    store::rows::seek_row(s, regions::Key { kind: 1, hash }, false)
+    store::rows::seek_row(s, Bound::Included(regions::Key { kind: 1, hash }))
 }
 
 // ---- the list

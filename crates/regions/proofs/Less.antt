@@ -20,7 +20,7 @@ use Rattle.regions.proofs.Order.{Small, by_w3, by_w2, by_w1, by_w0, by_kind, by_
 
 -- the next digit, and where it is the same the lower ones
 module _ (d e : ℕ) where
-  next : (o : Option Ordering) {r : Bool} → ((d ≡ e → ⊥) → ltb d e ≡ r) → (d ≡ e → is_some_and is_lt o ≡ r) → is_some_and is_lt (partial_ordering_then (Some (nat_cmp d e)) o) ≡ r
+  pub next : (o : Option Ordering) {r : Bool} → ((d ≡ e → ⊥) → ltb d e ≡ r) → (d ≡ e → is_some_and is_lt o ≡ r) → is_some_and is_lt (partial_ordering_then (Some (nat_cmp d e)) o) ≡ r
   next o {r} f g =
       elim (test (ltb d e)) [
         | inl t ↦ told Less (nat_cmp_is d e Less (ltb-true d e t)) (sym t ∙ f (λ q. omega (arith, ltb-true d e t)))
@@ -35,7 +35,7 @@ module _ (d e : ℕ) where
       told c h k = ap (λ (x : Ordering). is_some_and is_lt (partial_ordering_then (Some x) o)) (sym h) ∙ k
 
 -- the last digit
-last : (d e : ℕ) → is_some_and is_lt (Some (nat_cmp d e)) ≡ ltb d e
+pub last : (d e : ℕ) → is_some_and is_lt (Some (nat_cmp d e)) ≡ ltb d e
 last d e = ap (λ (o : Option Ordering). is_some_and is_lt o) (sym (whole (nat_cmp d e))) ∙ next d e (Some Equal) (λ _. refl) (λ q. sym (le-ltb d e (omega arith)))
   where
     whole : (c : Ordering) → partial_ordering_then (Some c) (Some Equal) ≡ Some c

@@ -1,5 +1,5 @@
 -- Searches, stated over the list of the records' keys as numbers.
-use Rattle.std.specs.Prelude.{ℕ, ◌≤◌, ◌<◌, Bool, true, false, ltb, ◌≡◌, List, length, get_or}
+use Rattle.std.specs.Prelude.{ℕ, ◌≤◌, ◌<◌, Bool, ltb, ◌≡◌, List, length, get_or}
 
 -- numbers in order
 unfoldable pub Sorted : List ℕ → Type 0
@@ -27,8 +27,3 @@ pub record First (ks : List ℕ) (from to x r : ℕ) : Type 0 where
   pub most : r ≤ to
   pub none : (j : ℕ) → from ≤ j → j < r → get_or ks j 0 ≡ x → ⊥
   pub found : r < to → get_or ks r 0 ≡ x
-
--- 1 for true
-abbrev pub one : Bool → ℕ
-one false = 0
-one true = 1

@@ -1,5 +1,7 @@
 -- Candidate rows and entries of connections as words.
-use Rattle.std.specs.Prelude.{ℕ, ◌/◌, ◌%◌, ◌^◌, List, [], ◌∷◌, ◌++◌, get_or}
+use Rattle.std.specs.Prelude.{ℕ, ◌+◌, ◌/◌, ◌%◌, ◌^◌, List, [], ◌∷◌, ◌++◌, get_or}
+use Rattle.std.specs.declared.ops.Bound.{Bound}
+use Rattle.std.specs.declared.ops.Bound.TheVariants.{Included, Excluded, Unbounded}
 use Rattle.words.specs.Words.{number}
 use Rattle.regions.specs.declared.Quad.{Quad}
 use Rattle.regions.specs.declared.Row.{Row}
@@ -54,6 +56,12 @@ read_row w = record { hash = read_quad w; conn = get_or w 4 0; ready = get_or w 
 -- a key's number: the kind is the digit above the hash, so that every Txid key (0) comes before every Wtxid key (1)
 unfoldable pub key_number : Key → ℕ
 key_number k = number (2 ^ 64) (quad_words k.hash ++ (k.kind ∷ []))
+
+-- the number that rows begin from where a search starts at a key, or behind it, or at all rows
+abbrev pub start_number : Bound Key → ℕ
+start_number (Included k) = key_number k
+start_number (Excluded k) = key_number k + 1
+start_number Unbounded = 0
 
 -- the key of a row: the kind is bit 0 of its bits
 abbrev pub key_of : Row → Key

@@ -7,15 +7,17 @@
 // the number is a word of the store's header.
 #![tactic(auto)]
 
-ghost use Rattle.std.specs.Prelude.{◌≡◌, ℕ, ◌+◌, ◌*◌, ◌≤◌, ◌<◌, List, [], ◌∷◌, length, get_or, take, drop, ltb};
+ghost use Rattle.std.specs.Prelude.{◌≡◌, ℕ, ◌+◌, ◌*◌, ◌≤◌, ◌<◌, List, length, get_or, take, drop, ltb};
 ghost use Rattle.words.specs.Words.{words, recs, splice, up, down};
 ghost use Rattle.regions.specs.Regions.{Inserted, Removed, Replaced, Truncated, Copied, Found, RecordLaws, WholeLaws};
 ghost use Rattle.regions.specs.declared.Row.{Row};
 ghost use Rattle.regions.specs.declared.Conn.{Conn};
 ghost use Rattle.regions.specs.Kinds.{row_kind, row_whole, conn_kind, conn_whole};
-ghost use Rattle.regions.specs.Order.{Sought, IsLowerBound, First, one};
+ghost use Rattle.regions.specs.Order.{Sought, IsLowerBound, First};
 ghost use Rattle.regions.specs.Rows.{row_size, conn_size, quad_words, read_quad, quad_number, row_words, read_row};
-ghost use Rattle.regions.specs.Rows.{key_number, key_of, row_key, row_conn, conn_words, read_conn, conn_key};
+ghost use Rattle.regions.specs.Rows.{key_number, start_number, key_of, row_key, row_conn, conn_words, read_conn, conn_key};
+
+use std::ops::Bound;
 
 pub mod keep;
 pub mod listed;
@@ -320,14 +322,14 @@ pub fn key_at(s: &[u8], i: usize) -> Key
     Key { kind, hash }
 }
 
-// Whether the key m comes before k; with `after`, whether it does not come after it.
-pub fn falls_short(m: Key, k: Key, after: bool) -> bool
-    ensures { result ≡ ltb (key_number m) (key_number k + one after) }
+// Whether the key m stands before the rows from `start` on.
+pub fn falls_short(m: Key, start: Bound<Key>) -> bool
+    ensures { result ≡ ltb (key_number m) (start_number start) }
 {
-    if after {
-        !key_less(k, m)
-    } else {
-        key_less(m, k)
+    match start {
+        Bound::Included(k) => key_less(m, k),
+        Bound::Excluded(k) => !key_less(k, m),
+        Bound::Unbounded => false,
     }
 }
 
@@ -349,17 +351,17 @@ pub fn lower_bound<F: Fn(usize) -> bool>(n: usize, falls_short: F) -> usize
     lo
 }
 
-// The first of n rows whose key does not come before k; with `after`, the first whose key comes after it. Or n.
-pub fn seek_row(s: &[u8], n: usize, k: Key, after: bool) -> usize
+// The first of n rows whose key does not stand before `start`, or n.
+pub fn seek_row(s: &[u8], n: usize, start: Bound<Key>) -> usize
     requires { 8 * (row_size * n) ≤ length s.now }
-    ensures { Sought (recs row_size row_key n (words s.now)) n (key_number k + one after) result }
+    ensures { Sought (recs row_size row_key n (words s.now)) n (start_number start) result }
 {
     lower_bound(
         n,
         |i| -> bool
             requires { 8 * (row_size * (i + 1)) ≤ length s.now }
-            ensures { result ≡ ltb (row_key (take row_size (drop (row_size * i) (words s.entry.now)))) (key_number k + one after) }
-        { falls_short(key_at(s, i), k, after) },
+            ensures { result ≡ ltb (row_key (take row_size (drop (row_size * i) (words s.entry.now)))) (start_number start) }
+        { falls_short(key_at(s, i), start) },
     )
 }
 

@@ -19,7 +19,7 @@ use Rattle.machine.proofs.Tests.{order}
 use Rattle.store.specs.Flat.{head_of, flat_of, rows_of, rows_for, tally, places_of}
 use Rattle.store.specs.FlatSound.{ConnFits}
 use Rattle.store.specs.Image.{Shows, Writes}
-use Rattle.store.specs.Shown.{row_numbers, conn_names, Sized, Light, Shown, Kept}
+use Rattle.store.specs.Shown.{rows_in, row_numbers, conn_names, Seek, Sized, Light, Shown, Kept}
 use Rattle.store.proofs.Bounds.{bound_same}
 use Rattle.store.proofs.Entries.{names-sorted, tally-length}
 use Rattle.store.proofs.Frame.{shown}
@@ -63,6 +63,11 @@ bounds-order ks x p q a b =
       | inr (inl e) ↦ omega arith
       | inr (inr l) ↦ omega arith
     ]
+
+pub sought_order : {b : List ℕ} {x p q : ℕ} → Kept b → Seek b (λ f. row_numbers f.rows) (rows_in b) x p → Seek b (λ f. row_numbers f.rows) (rows_in b) (x + 1) q → p ≤ q
+sought_order {b} {x} {p} {q} k a c =
+    let o = rows_in_order k.state k.sound in
+    bounds-order (row_numbers (rows_of k.state.table)) x p q (a.bound (flat_of k.state) k.writes o) (c.bound (flat_of k.state) k.writes o)
 
 -- where the rows of a key stand
 module _ (st : State) (s : Sound st) (k : Key) (small : k.hash < top) {x : ℕ} (e : x ≡ place k) where

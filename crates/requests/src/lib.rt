@@ -18,6 +18,8 @@ ghost use Rattle.store.specs.Flat.{witness_bit};
 ghost use Rattle.store.specs.Shown.{limit_in, rows_in, Kept, Shown};
 ghost use Rattle.requests.specs.Changes.{candidate_of, Words, KeyWords, Spans, FoundAmong, MarkIn, RowFor, witness_as, RowAdopting, OwnedBare, FiguresOf, Makes, Tells};
 
+use std::ops::Bound;
+
 pub mod whole;
 
 // One announcement: who can deliver, as what item, from when on, and how it ranks. (`preferred` ranks by itself: no other field stands or falls with it.)
@@ -35,6 +37,7 @@ pub struct Candidate {
 pub struct Window {
     pub from: usize,
     pub to: usize,
+    ghost order: { from ≤ to },
 }
 
 // ---- keys and bits as rows have them
@@ -97,8 +100,8 @@ pub fn window_of(s: &[u8], k: regions::Key) -> Window
     requires { Kept s.now }
     ensures { Spans s.now (key_number k) result.from result.to }
 {
-    let from = store::rows::seek_row(s, k, false);
-    let to = store::rows::seek_row(s, k, true);
+    let from = store::rows::seek_row(s, Bound::Included(k));
+    let to = store::rows::seek_row(s, Bound::Excluded(k));
     Window { from, to }
 }
 

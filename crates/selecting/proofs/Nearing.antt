@@ -2,7 +2,6 @@
 use Prim.Native.Nat.{ℕ, ◌+◌, ◌-◌, ◌≤◌, ◌<◌}
 use mathlib.Core.Path.{◌≡◌}
 use mathlib.Core.List.{List}
-use native.Mathlib.Nat.{add-zero}
 use native.Mathlib.Omega.{arith}
 use lib.ListN.{length, get_or}
 use Rattle.ident.specs.declared.Key.{Key}
@@ -11,10 +10,10 @@ use Rattle.regions.specs.declared.Key.{Key as RowKey}
 use Rattle.regions.specs.Order.{Sorted}
 use Rattle.regions.specs.Rows.{key_number}
 use Rattle.regions.proofs.Order.{Searching}
-use Rattle.store.specs.Flat.{flat_of, rows_of}
+use Rattle.store.specs.Flat.{flat_of}
 use Rattle.store.specs.Shown.{rows_in, row_numbers, Seek, Kept}
 use Rattle.requests.specs.Changes.{KeyWords, Spans}
-use Rattle.requests.proofs.Keeping.{rows_in_order, bounds-order}
+use Rattle.requests.proofs.Keeping.{rows_in_order}
 use Rattle.choosing.specs.Choosing.{WindowAs}
 use Rattle.selecting.specs.Near.{Behind}
 
@@ -33,15 +32,14 @@ begins l b = record { long = l; lo-le = b.most; hi-le = omega arith; below = b.b
 
 -- ---- the rows of a key
 
-pub window_by : {b : List ℕ} {k : Key} {w : RowKey} {from to : ℕ} → Kept b → KeyWords k w → Seek b (λ f. row_numbers f.rows) (rows_in b) (key_number w + 0) from
-    → Seek b (λ f. row_numbers f.rows) (rows_in b) (key_number w + 1) to → WindowAs b k.kind (hash_num k.hash) (record { from = from; to = to })
-window_by {b} {k} {w} {from} {to} kept e x y =
-    let z : Spans b (key_number w) from to = record {
-      order = bounds-order (row_numbers (rows_of kept.state.table)) (key_number w) from to
-          (rw add-zero at (x.bound (flat_of kept.state) kept.writes (rows_in_order kept.state kept.sound)))
-          (y.bound (flat_of kept.state) kept.writes (rows_in_order kept.state kept.sound));
-      most = y.most;
-      from_is = λ st s o. rw add-zero at (x.bound (flat_of st) o (rows_in_order st s));
-      to_is = λ st s o. y.bound (flat_of st) o (rows_in_order st s);
-    } in
-    record { small = e.small; spans = rw e.number at z }
+module _ {b : List ℕ} {k : Key} {w : RowKey} {from to : ℕ} (kept : Kept b) (x : Seek b (λ f. row_numbers f.rows) (rows_in b) (key_number w) from)
+    (y : Seek b (λ f. row_numbers f.rows) (rows_in b) (key_number w + 1) to) where
+  pub window_by : KeyWords k w → (o : from ≤ to) → WindowAs b k.kind (hash_num k.hash) (record { from = from; to = to; order = o })
+  window_by e o =
+      let z : Spans b (key_number w) from to = record {
+        order = o;
+        most = y.most;
+        from_is = λ st s v. x.bound (flat_of st) v (rows_in_order st s);
+        to_is = λ st s v. y.bound (flat_of st) v (rows_in_order st s);
+      } in
+      record { small = e.small; spans = rw e.number at z }

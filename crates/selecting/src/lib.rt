@@ -40,7 +40,7 @@ fn select_within(
     picks: &mut [usize],
     n: usize,
 ) -> usize
-    requires { Kept s.old × ((x.from ≤ x.to) × (x.to ≤ rows_in s.old)) × ((y.from ≤ y.to) × (y.to ≤ rows_in s.old)) × (n < length picks.old) }
+    requires { Kept s.old × (x.to ≤ rows_in s.old) × (y.to ≤ rows_in s.old) × (n < length picks.old) }
     ensures { OneSelected s.old s.new picks.old picks.new clock.time x y n result }
 {
     let Some(p) = choosing::choose_within(s, clock.time, x, y).pick else {

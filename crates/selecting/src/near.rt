@@ -3,18 +3,19 @@
 ghost use Rattle.std.specs.Prelude.{◌+◌, ◌*◌, ◌≤◌, ◌<◌, length};
 ghost use Rattle.ident.specs.Words.{hash_num};
 ghost use Rattle.words.specs.Words.{words, recs};
-ghost use Rattle.regions.specs.Order.{Sought, one};
-ghost use Rattle.regions.specs.Rows.{row_size, row_key, key_number};
+ghost use Rattle.regions.specs.Order.{Sought};
+ghost use Rattle.regions.specs.Rows.{row_size, row_key, start_number};
 ghost use Rattle.store.specs.Shown.{rows_in, row_numbers, Shown, Seek, Kept};
 ghost use Rattle.choosing.specs.Choosing.{WindowAs};
 ghost use Rattle.selecting.specs.Near.{Behind};
 
 use regions::ROW;
+use std::ops::Bound;
 
 // The guess, if the row before it falls short; otherwise the first row.
-fn begin_at(s: &[u8], n: usize, k: regions::Key, after: bool, guess: usize) -> usize
+fn begin_at(s: &[u8], n: usize, start: Bound<regions::Key>, guess: usize) -> usize
     requires { 8 * (row_size * n) ≤ length s.now }
-    ensures { Behind (recs row_size row_key n (words s.now)) n (key_number k + one after) result }
+    ensures { Behind (recs row_size row_key n (words s.now)) n (start_number start) result }
 {
     if guess == 0 {
         return 0;
@@ -22,7 +23,7 @@ fn begin_at(s: &[u8], n: usize, k: regions::Key, after: bool, guess: usize) -> u
     if n < guess {
         return 0;
     }
-    if regions::falls_short(regions::key_at(s, guess - 1), k, after) {
+    if regions::falls_short(regions::key_at(s, guess - 1), start) {
         guess
     } else {
         0
@@ -37,20 +38,20 @@ fn ahead(wide: usize, step: usize) -> usize
     if step < wide { step } else { wide / 2 }
 }
 
-// The first of n rows whose key does not come before k; with `after`, the first whose key comes after it. Or n. By hand, since
+// The first of n rows whose key does not stand before `start`, or n. By hand, since
 // it begins at a guess: from there on the steps double, then what is left is halved, so that a walk pays for the rows between two hashes and not for all of them, as
 // `regions::lower_bound` would.
-fn seek_in(s: &[u8], n: usize, k: regions::Key, after: bool, guess: usize) -> usize
+fn seek_in(s: &[u8], n: usize, start: Bound<regions::Key>, guess: usize) -> usize
     requires { 8 * (row_size * n) ≤ length s.now }
-    ensures { Sought (recs row_size row_key n (words s.now)) n (key_number k + one after) result }
+    ensures { Sought (recs row_size row_key n (words s.now)) n (start_number start) result }
 {
-    let mut lo = begin_at(s, n, k, after, guess);
+    let mut lo = begin_at(s, n, start, guess);
     let mut hi = n;
     let mut step = 0;
     while lo < hi {
         let d = ahead(hi - lo, step);
         let mid = lo + d;
-        if regions::falls_short(regions::key_at(s, mid), k, after) {
+        if regions::falls_short(regions::key_at(s, mid), start) {
             lo = mid + 1;
             step = 2 * d + 1;
         } else {
@@ -61,14 +62,14 @@ fn seek_in(s: &[u8], n: usize, k: regions::Key, after: bool, guess: usize) -> us
 }
 
 // What store::rows::seek_row answers.
-fn seek_near(s: &[u8], k: regions::Key, after: bool, guess: usize) -> usize
+fn seek_near(s: &[u8], start: Bound<regions::Key>, guess: usize) -> usize
     requires { Shown s.now }
-    ensures { Seek s.now (λ f. row_numbers f.rows) (rows_in s.now) (key_number k + one after) result }
+    ensures { Seek s.now (λ f. row_numbers f.rows) (rows_in s.now) (start_number start) result }
 {
     let n = store::head::rows(s);
     let x = store::head::HEAD * 8;
     let y = (store::head::HEAD + store::head::limit(s) * ROW) * 8;
-    seek_in(&s[x..y], n, k, after, guess)
+    seek_in(&s[x..y], n, start, guess)
 }
 
 // Where the rows of the hash h stand under one kind.
@@ -77,7 +78,7 @@ pub fn window_near(s: &[u8], kind: ident::Kind, h: ident::Hash, guess: usize) ->
     ensures { WindowAs s.now kind (hash_num h) result }
 {
     let k = requests::key_words(ident::Key { kind, hash: h });
-    let from = seek_near(s, k, false, guess);
-    let to = seek_near(s, k, true, from);
+    let from = seek_near(s, Bound::Included(k), guess);
+    let to = seek_near(s, Bound::Excluded(k), from);
     requests::Window { from, to }
 }

@@ -14,7 +14,7 @@ use Rattle.words.proofs.Records.{length-recs}
 use Rattle.regions.specs.declared.Row.{Row}
 use Rattle.regions.specs.declared.Quad.{Quad}
 use Rattle.regions.specs.declared.Key.{Key}
-use Rattle.regions.specs.Order.{Sorted, Bound, Sought, one}
+use Rattle.regions.specs.Order.{Sorted, Bound, Sought}
 use Rattle.regions.specs.Rows.{row_size, read_row, row_key, key_of, quad_number, key_number}
 use Rattle.regions.proofs.Rows.{row-key_at}
 use Rattle.machine.specs.Typed.{Each}
@@ -73,11 +73,11 @@ count_same p q [] e = refl
 count_same p q (r ∷ rs) e = rw (e.0, count_same p q rs e.1)
 
 -- the place of a Wtxid key
-wtxid-number : (q : Quad) → key_number (record { kind = 1; hash = q }) + one false ≡ top + quad_number q
+wtxid-number : (q : Quad) → key_number (record { kind = 1; hash = q }) ≡ top + quad_number q
 wtxid-number q = let e : key_number (record { kind = 1; hash = q }) ≡ top + quad_number q = key-number (record { kind = 1; hash = q }) (omega arith) in omega arith
 
 module _ (n : ℕ) (w : List ℕ) (s : RowsSound (recs row_size read_row n w)) (q : Quad) (from to : ℕ)
-    (b : Sought (recs row_size row_key n w) n (key_number (record { kind = 1; hash = q }) + one false) from) (v : Run w from n (quad_number q) to) where
+    (b : Sought (recs row_size row_key n w) n (key_number (record { kind = 1; hash = q })) from) (v : Run w from n (quad_number q) to) where
   bound : Bound (recs row_size row_key n w) (top + quad_number q) from
   bound = rw (wtxid-number q) at (b.bound (keys-sorted n w s))
 

@@ -4,7 +4,7 @@
 // says where; that is tested, not trusted.
 ghost use Rattle.std.specs.Prelude.{false, ◌+◌, ◌-◌, ◌≤◌, ◌<◌, get_or};
 ghost use Rattle.words.specs.Words.{words, recs, Decides};
-ghost use Rattle.regions.specs.Order.{Sought, one};
+ghost use Rattle.regions.specs.Order.{Sought};
 ghost use Rattle.regions.specs.Rows.{row_size, read_row, row_key, key_number, quad_number};
 ghost use Rattle.store.specs.FlatSound.{count_rows, owns_key};
 ghost use Rattle.sound_rows.specs.Rows.{RowsSound};
@@ -13,6 +13,7 @@ use regions::listed::Records;
 use regions::{Key, Quad, Row};
 use sound_rows::group;
 use sound_rows::part::Part;
+use std::ops::Bound;
 
 // Rows that are walked before they are searched.
 const NEAR: usize = 64;
@@ -42,13 +43,13 @@ fn not_short(rows: Records<Row>, k: Key, i: usize) -> bool
 
 // The first row whose key does not come before k, or their number: the i-th, if two tests say so.
 fn seek_near(rows: Records<Row>, k: Key, i: usize) -> usize
-    ensures { Sought (recs row_size row_key rows.entry.count (words rows.entry.bytes.now)) rows.entry.count (key_number k + one false) result }
+    ensures { Sought (recs row_size row_key rows.entry.count (words rows.entry.bytes.now)) rows.entry.count (key_number k) result }
 {
     if !short_before(rows, k, i) {
-        return regions::seek_row(rows.bytes, rows.count, k, false);
+        return regions::seek_row(rows.bytes, rows.count, Bound::Included(k));
     }
     if !not_short(rows, k, i) {
-        return regions::seek_row(rows.bytes, rows.count, k, false);
+        return regions::seek_row(rows.bytes, rows.count, Bound::Included(k));
     }
     i
 }
@@ -69,7 +70,7 @@ pub fn walk_to(rows: Records<Row>, h: Quad, at: usize) -> usize {
     let k = Key { kind: 1, hash: h };
     for i in at..rows.count {
         if i - at >= NEAR {
-            return regions::seek_row(rows.bytes, rows.count, k, false);
+            return regions::seek_row(rows.bytes, rows.count, Bound::Included(k));
         }
         if !regions::key_less(regions::key_at(rows.bytes, i), k) {
             return i;

@@ -1,7 +1,6 @@
 -- Rows whose keys do not fall: a half of Txid rows, then a half of Wtxid rows, and in each the hashes do not fall.
 use Prim.Native.Nat.{ℕ, zero, suc, ◌+◌, ◌%◌, ◌≤◌, ◌<◌}
 use mathlib.Core.Path.{◌≡◌, refl, ◌∙◌}
-use mathlib.Core.Bool.{false}
 use mathlib.Core.List.{List, [], ◌∷◌}
 use native.Mathlib.Nat.{le_refl, le_trans}
 use native.Mathlib.Omega.{arith}
@@ -13,7 +12,7 @@ use Rattle.words.specs.Words.{number, recs}
 use Rattle.words.proofs.Records.{length-recs, recs_at}
 use Rattle.regions.specs.declared.Row.{Row}
 use Rattle.regions.specs.declared.Key.{Key}
-use Rattle.regions.specs.Order.{Sorted, Bound, Sought, one}
+use Rattle.regions.specs.Order.{Sorted, Bound, Sought}
 use Rattle.regions.specs.Rows.{row_size, read_row, row_key, key_number}
 use Rattle.machine.specs.Typed.{Each}
 use Rattle.store.specs.Gather.{kind_is, key_at}
@@ -66,7 +65,7 @@ kind-wtxid r f h = go (kind_is (r.bits % 2)) h
 abbrev pub first_wtxid : Key
 first_wtxid = record { kind = 1; hash = record { w0 = 0; w1 = 0; w2 = 0; w3 = 0 } }
 
-pub first_top : key_number first_wtxid + one false ≡ top
+pub first_top : key_number first_wtxid ≡ top
 unfolding key_number number top
 first_top = refl
 
@@ -88,7 +87,7 @@ module _ (n : ℕ) (w : List ℕ) (s : RowsSound (recs row_size read_row n w)) w
       let l' : q < n = rw (length-recs row_size row_key n w) at l in
       rw (key-at p (omega arith), key-at q l') (climb p q h l')
 
-  module _ (m : ℕ) (b : Sought (recs row_size row_key n w) n (key_number first_wtxid + one false) m) where
+  module _ (m : ℕ) (b : Sought (recs row_size row_key n w) n (key_number first_wtxid) m) where
     bound : Bound (recs row_size row_key n w) top m
     bound = rw first_top at (b.bound keys-sorted)
 

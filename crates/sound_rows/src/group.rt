@@ -10,6 +10,7 @@ ghost use Rattle.sound_rows.specs.Groups.{row_at, Least, Run, Apart, Once, conn_
 use crate::part::Part;
 use regions::listed::Records;
 use regions::{Key, Quad, Row};
+use std::ops::Bound;
 
 // Slots in which the connections of a hash are marked.
 const SLOTS: u64 = 1024;
@@ -153,7 +154,7 @@ pub fn groups_fit(rows: Records<Row>, most: usize) -> bool
         hash: zero,
     };
     let n = rows.count;
-    let m = regions::seek_row(rows.bytes, n, first, false);
+    let m = regions::seek_row(rows.bytes, n, Bound::Included(first));
     let mut slots: [u64; 1024] = [0; 1024];
     let mut i = 0;
     let mut j = m;

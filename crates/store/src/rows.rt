@@ -1,15 +1,15 @@
 // The candidate rows: read, replaced, put in, taken out, searched.
-ghost use Rattle.std.specs.Prelude.{◌≡◌, ℕ, ◌+◌, ◌≤◌, ◌<◌, length, get_or, set};
+ghost use Rattle.std.specs.Prelude.{◌≡◌, ◌+◌, ◌≤◌, ◌<◌, get_or, set};
 ghost use Rattle.regions.specs.declared.Row.{Row};
-ghost use Rattle.regions.specs.Order.{one};
 ghost use Rattle.regions.specs.Regions.{insert_at, remove_at, remove_range};
-ghost use Rattle.regions.specs.Rows.{key_number};
+ghost use Rattle.regions.specs.Rows.{start_number};
 ghost use Rattle.store.specs.Flat.{Flat};
 ghost use Rattle.store.specs.Image.{Shows};
 ghost use Rattle.store.specs.Shown.{limit_in, rows_in, row_numbers, Shown, with_rows, Turns, Seek, Met};
 
 use crate::head;
 use regions::ROW;
+use std::ops::Bound;
 
 // The i-th row.
 pub fn row_at(s: &[u8], i: usize) -> regions::Row
@@ -67,15 +67,15 @@ pub fn drop_rows(s: &mut [u8], from: usize, to: usize)
     words::put(s, 3, (n - (to - from)) as u64);
 }
 
-// The first row whose key does not come before k; with `after`, the first whose key comes after it. Or how many rows there are.
-pub fn seek_row(s: &[u8], k: regions::Key, after: bool) -> usize
+// The first row whose key does not stand before `start`, or how many rows there are.
+pub fn seek_row(s: &[u8], start: Bound<regions::Key>) -> usize
     requires { Shown s.now }
-    ensures { Seek s.now (λ f. row_numbers f.rows) (rows_in s.now) (key_number k + one after) result }
+    ensures { Seek s.now (λ f. row_numbers f.rows) (rows_in s.now) (start_number start) result }
 {
     let n = head::rows(s);
     let x = head::HEAD * 8;
     let y = (head::HEAD + head::limit(s) * ROW) * 8;
-    regions::seek_row(&s[x..y], n, k, after)
+    regions::seek_row(&s[x..y], n, start)
 }
 
 // The first of the rows from .. to whose connection is c, or `to`.

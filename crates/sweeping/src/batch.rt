@@ -12,6 +12,8 @@ ghost use Rattle.announcing.specs.Evicts.{part};
 ghost use Rattle.cursors.specs.InWords.{Stands};
 ghost use Rattle.sweeping.specs.Batches.{last_row, Put, Walks, behind, BeginsAt, AfterCursor, AfterKnown};
 
+use std::ops::Bound;
+
 // How many keys are handed out, and the last of them.
 #[derive(Clone, Copy)]
 pub struct Batch {
@@ -82,7 +84,7 @@ pub fn after_cursor(s: &[u8], c: Option<ident::Key>) -> usize
     let Some(k) = c else {
         return 0;
     };
-    store::rows::seek_row(s, requests::key_words(k), true)
+    store::rows::seek_row(s, Bound::Excluded(requests::key_words(k)))
 }
 
 // The first row whose key comes after the known cursor.

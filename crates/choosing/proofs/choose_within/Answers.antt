@@ -11,10 +11,10 @@ use Rattle.choosing.proofs.choose_within.Goals.{then-owned_in-via-then-owned_in,
 use Rattle.choosing.proofs.choose_within.Goals as goal
 
 pub owned_in-requires : goal.owned_in-requires
-owned_in-requires c = (kept_shown c.requires.0, c.requires.1.0, c.requires.1.1)
+owned_in-requires c = (kept_shown c.requires.0, c.requires.1)
 
 pub owned_in-requires-else-owned_in : goal.owned_in-requires-else-owned_in
-owned_in-requires-else-owned_in c = (kept_shown c.requires.0, c.requires.2.0, c.requires.2.1)
+owned_in-requires-else-owned_in c = (kept_shown c.requires.0, c.requires.2)
 
 pub returns-then-owned_in : goal.returns-then-owned_in
 returns-then-owned_in c = elim c.then-owned_in.branch [
@@ -41,10 +41,10 @@ returns-then-owned_in c = elim c.then-owned_in.branch [
 ]
 
 pub wait_in-a-requires : goal.wait_in-a-requires
-wait_in-a-requires c = (kept_shown c.requires.0, c.requires.1.0, c.requires.1.1)
+wait_in-a-requires c = (kept_shown c.requires.0, c.requires.1)
 
 pub wait_in-b-requires : goal.wait_in-b-requires
-wait_in-b-requires c = (kept_shown c.requires.0, c.requires.2.0, c.requires.2.1)
+wait_in-b-requires c = (kept_shown c.requires.0, c.requires.2)
 
 pub returns : goal.returns
 returns c =

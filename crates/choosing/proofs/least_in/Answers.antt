@@ -14,9 +14,9 @@ use Rattle.choosing.proofs.least_in.Goals as goal
 
 pub loop-i-init : goal.loop-i-init
 loop-i-init c = (
-  c.requires.1,
+  c.args.x.order,
   omega arith,
-  λ st s w. least_none (rows_of st.table) (machine.able c.args.clock st.table []) c.args.to c.args.to (omega arith),
+  λ st s w. least_none (rows_of st.table) (machine.able c.args.clock st.table []) c.args.x.to c.args.x.to (omega arith),
   λ f w. tt,
 )
 
@@ -30,21 +30,21 @@ loop-i-preserved c = (
   λ st s w.
       let z = sizes w in
       least_step (rows_of st.table) (machine.able c.args.clock st.table []) c.row_at-r.result
-      (c.loop-i.i - 1) c.args.to (omega arith) (omega arith)
-      (omega (arith, c.requires.2)) (c.with_row-v.ensures.is st s w) (c.row_at-r.ensures (flat_of st) c.row_at-r.result w)
+      (c.loop-i.i - 1) c.args.x.to (omega arith) (omega arith)
+      (omega (arith, c.requires.1)) (c.with_row-v.ensures.is st s w) (c.row_at-r.ensures (flat_of st) c.row_at-r.result w)
       (c.loop-i.invariant.2 st s w),
   λ f w.
       let z = sizes w in
       c.with_row-v.ensures.found f.rows
       (record {
-        inside = omega (arith, c.requires.2);
+        inside = omega (arith, c.requires.1);
         row_is = λ d. c.row_at-r.ensures f d w;
       }) (c.loop-i.invariant.3 f w),
 )
 
 pub returns : goal.returns
 returns c = record {
-  is = λ st s w. let e : c.loop-i.i ≡ c.args.from = omega arith in c.loop-i.invariant.2 st s w ∙ ap
-      (λ (i : ℕ). least_rows (machine.able c.args.clock st.table []) (part i c.args.to (rows_of st.table))) e;
+  is = λ st s w. let e : c.loop-i.i ≡ c.args.x.from = omega arith in c.loop-i.invariant.2 st s w ∙ ap
+      (λ (i : ℕ). least_rows (machine.able c.args.clock st.table []) (part i c.args.x.to (rows_of st.table))) e;
   found = c.loop-i.invariant.3;
 }

@@ -11,5 +11,5 @@ use Rattle.choosing.specs.Choosing.{picked, least_rows, Found}
 use Rattle.choosing.proofs.least_in.Given as goal
 
 abbrev pub invariant-loop-i : goal.invariant-loop-i
-invariant-loop-i l = (l.from ≤ l.i) × (l.i ≤ l.to) × Tells l.s (λ t. picked l.v ≡ least_rows (machine.able l.clock t []) (part l.i l.to (rows_of t)))
+invariant-loop-i l = (l.fn.x.from ≤ l.i) × (l.i ≤ l.fn.x.to) × Tells l.s (λ t. picked l.v ≡ least_rows (machine.able l.clock t []) (part l.i l.fn.x.to (rows_of t)))
     × ((f : Flat) → Shows l.s f → Found f.rows l.v)

@@ -7,7 +7,7 @@ use Rattle.choosing.proofs.Scanned.{owns_none, owns_here, owns-later}
 use Rattle.choosing.proofs.owned_in.Goals as goal
 
 pub loop-i-init : goal.loop-i-init
-loop-i-init c = (c.requires.1, λ f w. refl)
+loop-i-init c = (c.args.x.order, λ f w. refl)
 
 pub row_at-r-requires : goal.row_at-r-requires
 row_at-r-requires c = (c.requires.0, omega arith)
@@ -15,8 +15,8 @@ row_at-r-requires c = (c.requires.0, omega arith)
 pub returns-then-r-eq1 : goal.returns-then-r-eq1
 returns-then-r-eq1 c = λ f w.
     let z = sizes w in
-    owns_here f.rows c.row_at-r.result c.loop-i.i c.args.to (omega arith)
-    (omega (arith, c.requires.2)) (c.row_at-r.ensures f c.row_at-r.result w) (eq-eqb _ 1 c.if-r-eq1.true)
+    owns_here f.rows c.row_at-r.result c.loop-i.i c.args.x.to (omega arith)
+    (omega (arith, c.requires.1)) (c.row_at-r.ensures f c.row_at-r.result w) (eq-eqb _ 1 c.if-r-eq1.true)
     ∙ c.loop-i.invariant.1 f w
 
 pub loop-i-preserved : goal.loop-i-preserved
@@ -24,10 +24,10 @@ loop-i-preserved c = (
   omega arith,
   λ f w.
       let z = sizes w in
-      owns-later f.rows c.row_at-r.result c.loop-i.i c.args.to (omega arith)
-      (omega (arith, c.requires.2)) (c.row_at-r.ensures f c.row_at-r.result w) (ne_eqb _ 1 c.if-r-eq1.false)
+      owns-later f.rows c.row_at-r.result c.loop-i.i c.args.x.to (omega arith)
+      (omega (arith, c.requires.1)) (c.row_at-r.ensures f c.row_at-r.result w) (ne_eqb _ 1 c.if-r-eq1.false)
       ∙ c.loop-i.invariant.1 f w,
 )
 
 pub returns : goal.returns
-returns c = λ f w. owns_none f.rows c.loop-i.i c.args.to (omega arith) ∙ c.loop-i.invariant.1 f w
+returns c = λ f w. owns_none f.rows c.loop-i.i c.args.x.to (omega arith) ∙ c.loop-i.invariant.1 f w

@@ -8,4 +8,4 @@ use Rattle.choosing.specs.Choosing.{any_owns}
 use Rattle.choosing.proofs.owned_in.Given as goal
 
 abbrev pub invariant-loop-i : goal.invariant-loop-i
-invariant-loop-i l = (l.i ≤ l.to) × ((f : Flat) → Shows l.s f → any_owns (part l.i l.to f.rows) ≡ any_owns (part l.initial.i l.to f.rows))
+invariant-loop-i l = (l.i ≤ l.fn.x.to) × ((f : Flat) → Shows l.s f → any_owns (part l.i l.fn.x.to f.rows) ≡ any_owns (part l.initial.i l.fn.x.to f.rows))

@@ -6,10 +6,10 @@ use Rattle.choosing.proofs.Waiting.{waits_none, waits-row}
 use Rattle.choosing.proofs.later.wait_in.Goals as goal
 
 pub loop-i-init : goal.loop-i-init
-loop-i-init c = (c.requires.1, omega arith, λ f w. waits_none c.args.clock f.rows c.args.to c.args.to (omega arith))
+loop-i-init c = (c.args.x.order, omega arith, λ f w. waits_none c.args.clock f.rows c.args.x.to c.args.x.to (omega arith))
 
 pub row_at-r-requires : goal.row_at-r-requires
-row_at-r-requires c = (c.requires.0, omega (arith, c.requires.2))
+row_at-r-requires c = (c.requires.0, omega (arith, c.requires.1))
 
 pub loop-i-preserved : goal.loop-i-preserved
 loop-i-preserved c = (
@@ -17,8 +17,8 @@ loop-i-preserved c = (
   omega arith,
   λ f w.
       let z = sizes w in
-      waits-row c.args.clock f.rows c.args.to
+      waits-row c.args.clock f.rows c.args.x.to
       c.row_at-r.result (c.loop-i.i - 1) (omega arith) (omega arith)
-      (omega (arith, c.requires.2)) (c.row_at-r.ensures f c.row_at-r.result w)
+      (omega (arith, c.requires.1)) (c.row_at-r.ensures f c.row_at-r.result w)
       (c.loop-i.invariant.2 f w) c.later.ensures c.earlier-w.ensures,
 )

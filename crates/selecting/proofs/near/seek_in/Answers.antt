@@ -5,8 +5,7 @@ use native.Mathlib.Omega.{arith}
 use borrow.Author.Tests.{ltb-true, ltb-false}
 use Rattle.words.specs.Words.{words}
 use Rattle.words.proofs.Records.{length-recs}
-use Rattle.regions.specs.Order.{one}
-use Rattle.regions.specs.Rows.{row_size, row_key, key_number}
+use Rattle.regions.specs.Rows.{row_size, row_key, key_number, start_number}
 use Rattle.regions.proofs.Order.{search_up, search_down, search_end}
 use Rattle.regions.proofs.Rows.{row-key_at}
 use Rattle.selecting.proofs.Nearing.{begins}
@@ -20,7 +19,7 @@ loop-lo-preserved-then-falls_short c =
     let a = c.args in
     let m = c.loop-lo.lo + c.ahead-d.result in
     let met = c.key_at in
-    let h = rw met.ensures at (ltb-true (key_number met.result) (key_number a.k + one a.after) (sym c.falls_short.ensures ∙ c.if-falls_short.true)) in
+    let h = rw met.ensures at (ltb-true (key_number met.result) (start_number a.start) (sym c.falls_short.ensures ∙ c.if-falls_short.true)) in
     search_up c.loop-lo.invariant m (omega arith) (omega arith) (rw (row-key_at (words a.s.now) a.n m (omega arith)) h)
 
 pub loop-lo-preserved : goal.loop-lo-preserved
@@ -28,7 +27,7 @@ loop-lo-preserved c =
     let a = c.args in
     let m = c.loop-lo.lo + c.ahead-d.result in
     let met = c.key_at in
-    let h = rw met.ensures at (ltb-false (key_number met.result) (key_number a.k + one a.after) (sym c.falls_short.ensures ∙ c.if-falls_short.false)) in
+    let h = rw met.ensures at (ltb-false (key_number met.result) (start_number a.start) (sym c.falls_short.ensures ∙ c.if-falls_short.false)) in
     search_down c.loop-lo.invariant m (omega arith) (omega arith) (rw (row-key_at (words a.s.now) a.n m (omega arith)) h)
 
 pub returns : goal.returns

@@ -1,5 +1,5 @@
 -- `selecting::near::window_near` meets its contract.
-use Rattle.requests.proofs.Keeping.{kept_shown}
+use Rattle.requests.proofs.Keeping.{kept_shown, sought_order}
 use Rattle.selecting.proofs.Nearing.{window_by}
 use Rattle.selecting.proofs.near.window_near.Goals as goal
 
@@ -9,5 +9,8 @@ seek_near-from-requires c = kept_shown c.requires
 pub seek_near-to-requires : goal.seek_near-to-requires
 seek_near-to-requires c = kept_shown c.requires
 
+pub invariant_of-result : goal.invariant_of-result
+invariant_of-result c = record { order = sought_order c.requires c.seek_near-from.ensures c.seek_near-to.ensures }
+
 pub returns : goal.returns
-returns c = window_by c.requires c.key_words-k.ensures c.seek_near-from.ensures c.seek_near-to.ensures
+returns c = window_by c.requires c.seek_near-from.ensures c.seek_near-to.ensures c.key_words-k.ensures _
