@@ -33,7 +33,7 @@ pub fn row_key(r: regions::Row) -> regions::Key
     ensures { result ≡ key_of r }
 {
     regions::Key {
-        kind: r.bits % 2,
+        kind: ident::Kind::from(r.bits % 2),
         hash: r.hash,
     }
 }
@@ -100,11 +100,11 @@ pub fn victim_at(s: &[u8], h: ident::Hash) -> Option<regions::Row>
     requires { Kept s.now }
     ensures { Tells s.now (λ t. found result ≡ machine.greatest (machine.victims (machine.at_hash (hash_num h)) t)) }
 {
-    let a = requests::key_words(ident::Key {
+    let a = regions::Key::from(ident::Key {
         kind: ident::Kind::Txid,
         hash: h,
     });
-    let b = requests::key_words(ident::Key {
+    let b = regions::Key::from(ident::Key {
         kind: ident::Kind::Wtxid,
         hash: h,
     });
@@ -147,6 +147,6 @@ pub fn key_of(r: regions::Row) -> ident::Key
 {
     ident::Key {
         kind: ident::Kind::from(r.bits % 2),
-        hash: requests::quad_hash(r.hash),
+        hash: ident::Hash::from(r.hash),
     }
 }

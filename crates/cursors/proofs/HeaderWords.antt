@@ -12,13 +12,13 @@ use Rattle.ident.specs.declared.Kind.TheVariants.{Txid, Wtxid}
 use Rattle.words.specs.Words.{splice}
 use Rattle.words.proofs.Splice.{splice_more}
 use Rattle.regions.proofs.Gap.{set_one}
-use Rattle.store.specs.Flat.{kind_bit}
+use Rattle.ident.specs.Number.{kind_number}
 use Rattle.store.specs.Image.{cursor_tag, poll_words}
 use Rattle.cursors.specs.Numbers.{time_num}
 
 -- ---- tags
 
-tag_is : (k : Kind) → kind_bit k + 1 ≡ cursor_tag k
+tag_is : (k : Kind) → kind_number k + 1 ≡ cursor_tag k
 tag_is Txid = refl
 tag_is Wtxid = refl
 

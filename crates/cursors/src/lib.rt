@@ -67,7 +67,7 @@ pub fn cursor_at(s: &[u8], a: usize) -> Option<ident::Key>
     ensures { maybe_key_num result ≡ cursor_in (words s.now) a }
 {
     let kind = kind_in(words::get(s, a))?;
-    let hash = requests::quad_hash(regions::read_quad(s, a + 1));
+    let hash = ident::Hash::from(regions::read_quad(s, a + 1));
     Some(ident::Key { kind, hash })
 }
 
@@ -84,8 +84,8 @@ fn words_of(c: Option<ident::Key>) -> (u64, regions::Quad)
         };
         return (0, none);
     };
-    let w = requests::key_words(k);
-    (w.kind + 1, w.hash)
+    let w = regions::Key::from(k);
+    (u64::from(w.kind) + 1, w.hash)
 }
 
 pub fn set_cursor(s: &mut [u8], a: usize, c: Option<ident::Key>)

@@ -37,7 +37,7 @@ fn goes(r: regions::Row, p: Span) -> bool
     if r.conn == p.conn {
         let hash = r.hash;
         let k = regions::Key {
-            kind: r.bits % 2,
+            kind: ident::Kind::from(r.bits % 2),
             hash,
         };
         let from = p.from;
@@ -95,8 +95,8 @@ pub fn cut_between(s: &mut [u8], n: u64, from: ident::Key, to: ident::Key)
     requires { Kept s.old }
     ensures { Makes s.old s.new (λ t. Unit {0}) (cuts n (between (key_num from) (key_num to))) }
 {
-    let a = requests::key_words(from);
-    let b = requests::key_words(to);
+    let a = regions::Key::from(from);
+    let b = regions::Key::from(to);
     let p = Span {
         conn: n,
         from: a,

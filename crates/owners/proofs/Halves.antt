@@ -87,7 +87,7 @@ up_tables g (q ∷ a) b = omega (arith, up_tables g a b)
 
 -- the least Wtxid key, as rows have it
 abbrev pub first_wtxid : RowKey
-first_wtxid = record { kind = 1; hash = record { w0 = 0; w1 = 0; w2 = 0; w3 = 0 } }
+first_wtxid = record { kind = Wtxid; hash = record { w0 = 0; w1 = 0; w2 = 0; w3 = 0 } }
 
 first_top : key_number first_wtxid ≡ top
 unfolding key_number number top

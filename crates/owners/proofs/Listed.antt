@@ -14,7 +14,7 @@ use Rattle.ident.specs.Words.{hash_num}
 use Rattle.regions.specs.declared.Quad.{Quad}
 use Rattle.regions.specs.Rows.{quad_number}
 use Rattle.regions.proofs.Order.{number_quad}
-use Rattle.requests.specs.Changes.{Words}
+use Rattle.regions.specs.Keys.{Words}
 use Rattle.machine.specs.Owners.{ascending}
 
 -- ---- a hash as four words

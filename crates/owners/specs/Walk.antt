@@ -2,12 +2,12 @@
 use Rattle.std.specs.Prelude as rust
 use Rattle.std.specs.Prelude.{ℕ, suc, ◌+◌, ◌≤◌, ◌<◌, ◌≡◌, List, [], ◌∷◌, eqb, if◌then◌else◌}
 use Rattle.std.proofs.Math.Option.{Option, none}
-use Rattle.ident.specs.Number.{top}
+use Rattle.ident.specs.Number.{top, kind_number}
 use Rattle.regions.specs.declared.Row.{Row}
 use Rattle.machine.specs.State.{Table}
 use Rattle.machine.specs.Table.{keys}
 use Rattle.machine.specs.Owners.{Holding, holding_as, or_holding, holding_at, holdings, keys_up_to, passed}
-use Rattle.machine.specs.Step.{kind_number, holding_words, holdings_answer, written}
+use Rattle.machine.specs.Step.{holding_words, holdings_answer, written}
 use Rattle.store.specs.Flat.{Flat, rows_of}
 use Rattle.store.specs.Gather.{key_at, owner_at}
 use Rattle.store.specs.Image.{Shows}

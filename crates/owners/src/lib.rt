@@ -4,11 +4,10 @@
 // next, so that every row up to the greatest hash is passed once, and behind it no more than the next one is looked at. A key is counted at its last row.
 #![tactic(auto)]
 
-ghost use Rattle.std.specs.Prelude.{◌≡◌, true, suc, ◌+◌, ◌*◌, ◌≤◌, length};
+ghost use Rattle.std.specs.Prelude.{◌≡◌, true, ◌+◌, ◌*◌, ◌≤◌, length};
 ghost use Rattle.std.proofs.Math.Option.{Option, none};
 ghost use Rattle.words.specs.Words.{bytes_of, splice};
 ghost use Rattle.regions.specs.Rows.{quad_number};
-ghost use Rattle.machine.specs.Step.{kind_number};
 ghost use Rattle.machine.specs.Owners.{Holding, holding_as, or_holding, ascending};
 ghost use Rattle.machine.specs.Call.{owner_bytes};
 ghost use Rattle.store.specs.Gather.{key_at, owner_at};
@@ -101,29 +100,20 @@ fn first_wtxid(s: &[u8]) -> usize
         w2: 0,
         w3: 0,
     };
-    store::rows::seek_row(s, Bound::Included(regions::Key { kind: 1, hash }))
+    let kind = ident::Kind::Wtxid;
+    store::rows::seek_row(s, Bound::Included(regions::Key { kind, hash }))
 }
 
 // ---- the list
 
-// How an answer tells under which kind a hash is owned; 0 says that nobody owns it.
-fn tag(kind: ident::Kind) -> u64
-    ensures { result ≡ suc (kind_number kind) }
-{
-    match kind {
-        ident::Kind::Txid => 1,
-        ident::Kind::Wtxid => 2,
-    }
-}
-
-// Stores v as the n-th owner of u. (n is a place: how many there are is said by the hashes.)
+// Stores v as the n-th owner of u. Its tag is the number of its kind and one more: 0 says that nobody owns the hash. (n is a place: how many there are is said by the hashes.)
 fn put_owner(u: &mut [u8], n: usize, v: Option<Owner>)
     requires { owner_bytes * n + owner_bytes ≤ length u.old }
     ensures { u.new ≡ splice u.old (owner_bytes * n) (bytes_of (owner_words v)) }
 {
     let w = n * OWNER;
     match v {
-        Some(o) => claiming::entries::put_three(u, w, tag(o.kind), o.connection, o.deadline),
+        Some(o) => claiming::entries::put_three(u, w, u64::from(o.kind) + 1, o.connection, o.deadline),
         None => claiming::entries::put_three(u, w, 0, 0, 0),
     }
 }
@@ -140,7 +130,7 @@ pub fn owners_of(s: &[u8], hashes: &[u8], out: &mut [u8]) -> u64
     let mut j = m;
     let mut passed: u64 = 0;
     for p in 0..count {
-        let h = requests::hash_quad(lent_lists::hash_in(hashes, p));
+        let h = regions::Quad::from(lent_lists::hash_in(hashes, p));
         let a = along(s, i, m, h);
         let b = along(s, j, n, h);
         put_owner(out, p, a.owner.or(b.owner));

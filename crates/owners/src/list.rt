@@ -14,8 +14,8 @@ fn ascends(hashes: &[u8]) -> bool
     ensures { result ≡ ascending (hashes_in hashes.now) }
 {
     for i in 1..lent_lists::hashes(hashes) {
-        let a = requests::hash_quad(lent_lists::hash_in(hashes, i - 1));
-        let b = requests::hash_quad(lent_lists::hash_in(hashes, i));
+        let a = regions::Quad::from(lent_lists::hash_in(hashes, i - 1));
+        let b = regions::Quad::from(lent_lists::hash_in(hashes, i));
         if !regions::quad_less(a, b) {
             return false;
         }

@@ -11,6 +11,9 @@ use Rattle.std.specs.Cmp.{nat_cmp_is}
 use Rattle.std.specs.declared.cmp.Ordering.{Ordering}
 use Rattle.std.specs.declared.cmp.Ordering.TheVariants.{Less, Equal, Greater}
 use Rattle.std.specs.Ordering.{nat_cmp, is_lt, is_some_and, partial_lt, partial_ordering_then}
+use Rattle.ident.specs.declared.Kind.{Kind}
+use Rattle.ident.specs.declared.Kind.TheVariants.{Txid, Wtxid}
+use Rattle.ident.specs.Number.{kind_number}
 use Rattle.regions.specs.declared.Quad.{Quad}
 use Rattle.regions.specs.declared.Key.{Key}
 use Rattle.regions.specs.contracts.QuadPartialOrd.TheImpl as QuadOrder
@@ -60,9 +63,15 @@ quads-derived : (a b : Quad) → (QuadOrder.ghosts).partial_cmp a b ≡ digits_o
 unfolding digits_of
 quads-derived a b = refl
 
-keys-derived : (a b : Key) → (KeyOrder.ghosts).partial_cmp a b ≡ partial_ordering_then (Some (nat_cmp a.kind b.kind)) (digits_of a.hash b.hash)
+keys-derived : (a b : Key) → (KeyOrder.ghosts).partial_cmp a b ≡ partial_ordering_then (Some (nat_cmp (kind_number a.kind) (kind_number b.kind))) (digits_of a.hash b.hash)
 unfolding digits_of
-keys-derived a b = refl
+keys-derived a b = ranked a.kind b.kind a.hash b.hash
+  where
+    ranked : (k j : Kind) (g h : Quad) → (KeyOrder.ghosts).partial_cmp (record { kind = k; hash = g }) (record { kind = j; hash = h }) ≡ partial_ordering_then (Some (nat_cmp (kind_number k) (kind_number j))) (digits_of g h)
+    ranked Txid Txid g h = refl
+    ranked Txid Wtxid g h = refl
+    ranked Wtxid Txid g h = refl
+    ranked Wtxid Wtxid g h = refl
 
 pub quads_less : (a b : Quad) → Small a → Small b → partial_lt (QuadOrder.ghosts).partial_cmp a b ≡ ltb (quad_number a) (quad_number b)
 quads_less a b p q = ap (λ (o : Option Ordering). is_some_and is_lt o) (quads-derived a b) ∙ digits-less a b p q
@@ -70,4 +79,4 @@ quads_less a b p q = ap (λ (o : Option Ordering). is_some_and is_lt o) (quads-d
 pub keys_less : (a b : Key) → Small a.hash → Small b.hash → partial_lt (KeyOrder.ghosts).partial_cmp a b ≡ ltb (key_number a) (key_number b)
 keys_less a b p q =
     ap (λ (o : Option Ordering). is_some_and is_lt o) (keys-derived a b)
-    ∙ next a.kind b.kind (digits_of a.hash b.hash) (by_kind a b p q) (λ e. by_hash a b e (digits-less a.hash b.hash p q))
+    ∙ next (kind_number a.kind) (kind_number b.kind) (digits_of a.hash b.hash) (by_kind a b p q) (λ e. by_hash a b e (digits-less a.hash b.hash p q))

@@ -7,3 +7,4 @@ pub mod Removing
 pub mod Records
 pub mod Less
 pub mod Retaining
+pub mod Hashes

@@ -8,6 +8,7 @@ use native.Mathlib.Omega.{arith}
 use lib.Dec.{ltb}
 use lib.ListN.{length, get_or}
 use borrow.Author.Tests.{ltb-true, ltb-false, lt-ltb, le-ltb}
+use Rattle.ident.specs.Number.{kind_number}
 use Rattle.words.specs.Words.{number}
 use Rattle.words.proofs.Digits.{number_append}
 use Rattle.regions.specs.declared.Quad.{Quad}
@@ -128,16 +129,16 @@ module _ {a b : Quad} (p : Small a) (q : Small b) where
       by_w0 e₁ = last_digit a.w0 b.w0 (rw (top_two, e₁))
 
 -- a key's kind stands above its hash
-pub key-number : (k : Key) → key_number k ≡ quad_number k.hash + (2 ^ 64) ^ 4 * number (2 ^ 64) (k.kind ∷ [])
+pub key-number : (k : Key) → key_number k ≡ quad_number k.hash + (2 ^ 64) ^ 4 * number (2 ^ 64) (kind_number k.kind ∷ [])
 unfolding key_number quad_number
-key-number k = number_append (2 ^ 64) (quad_words k.hash) (k.kind ∷ [])
+key-number k = number_append (2 ^ 64) (quad_words k.hash) (kind_number k.kind ∷ [])
 
 module _ (a b : Key) where
-  pub by_kind : Small a.hash → Small b.hash → (a.kind ≡ b.kind → ⊥) → ltb a.kind b.kind ≡ ltb (key_number a) (key_number b)
+  pub by_kind : Small a.hash → Small b.hash → (kind_number a.kind ≡ kind_number b.kind → ⊥) → ltb (kind_number a.kind) (kind_number b.kind) ≡ ltb (key_number a) (key_number b)
   unfolding key_number number
-  by_kind p q n = (above_hash p q (differ_at a.kind b.kind {h = 0} {h' = 0} refl n)).order
+  by_kind p q n = (above_hash p q (differ_at (kind_number a.kind) (kind_number b.kind) {h = 0} {h' = 0} refl n)).order
 
-  pub by_hash : {r : Bool} → a.kind ≡ b.kind → r ≡ ltb (quad_number a.hash) (quad_number b.hash) → r ≡ ltb (key_number a) (key_number b)
+  pub by_hash : {r : Bool} → kind_number a.kind ≡ kind_number b.kind → r ≡ ltb (quad_number a.hash) (quad_number b.hash) → r ≡ ltb (key_number a) (key_number b)
   by_hash e f = f ∙ rw (key-number a, key-number b, e) (same_above (quad_number a.hash) (quad_number b.hash) _)
 
 -- the test of the upper bound

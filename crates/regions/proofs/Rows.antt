@@ -8,6 +8,8 @@ use native.Mathlib.Omega.{arith}
 use lib.Dec.{lit<}
 use lib.ListN.{length, take, drop, get_or, set}
 use lib.Seq.{sets-eq, get_or-drop, get_or-take}
+use Rattle.ident.specs.declared.Kind.{Kind}
+use Rattle.ident.specs.Number.{kind_is}
 use Rattle.words.specs.Words.{splice, recs}
 use Rattle.words.proofs.Records.{recs_at}
 use Rattle.regions.specs.declared.Quad.{Quad}
@@ -73,9 +75,9 @@ pub row-key_at : (w : List ℕ) (n i : ℕ) → i < n → get_or (recs row_size 
 row-key_at w n i h = recs_at row_size row_key n w i 0 h
 
 -- as `key_at` reads it
-pub key-read : (w : List ℕ) (i : ℕ) {bits : ℕ} {hash : Quad} → bits ≡ get_or w (i * row_size + 8) 0 → hash ≡ read_quad (drop (i * row_size) w)
-    → ◌≡◌ {A = Key} (record { kind = bits % 2; hash = hash }) (key_of (read_row (take row_size (drop (row_size * i) w))))
+pub key-read : (w : List ℕ) (i : ℕ) {kind : Kind} {bits : ℕ} {hash : Quad} → kind ≡ kind_is (bits % 2) → bits ≡ get_or w (i * row_size + 8) 0 → hash ≡ read_quad (drop (i * row_size) w)
+    → ◌≡◌ {A = Key} (record { kind = kind; hash = hash }) (key_of (read_row (take row_size (drop (row_size * i) w))))
 unfolding read_row
-key-read w i p q =
+key-read w i o p q =
     let at : (j : ℕ) → j < row_size → get_or (take row_size (drop (row_size * i) w)) j 0 ≡ get_or w (i * row_size + j) 0 = word_in w row_size i in
-    rw (p, q) (simp (get_or-drop, at 0 (lit< tt), at 1 (lit< tt), at 2 (lit< tt), at 3 (lit< tt), at 8 (lit< tt)))
+    rw (o, p, q) (simp (get_or-drop, at 0 (lit< tt), at 1 (lit< tt), at 2 (lit< tt), at 3 (lit< tt), at 8 (lit< tt)))

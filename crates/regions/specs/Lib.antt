@@ -3,3 +3,4 @@ pub mod Order
 pub mod Rows
 pub mod Kinds
 pub mod Staying
+pub mod Keys

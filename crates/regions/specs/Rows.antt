@@ -3,6 +3,7 @@ use Rattle.std.specs.Prelude.{ℕ, ◌+◌, ◌/◌, ◌%◌, ◌^◌, List, [],
 use Rattle.std.specs.declared.ops.Bound.{Bound}
 use Rattle.std.specs.declared.ops.Bound.TheVariants.{Included, Excluded, Unbounded}
 use Rattle.words.specs.Words.{number}
+use Rattle.ident.specs.Number.{kind_number, kind_is}
 use Rattle.regions.specs.declared.Quad.{Quad}
 use Rattle.regions.specs.declared.Row.{Row}
 use Rattle.regions.specs.declared.Key.{Key}
@@ -55,7 +56,7 @@ read_row w = record { hash = read_quad w; conn = get_or w 4 0; ready = get_or w 
 
 -- a key's number: the kind is the digit above the hash, so that every Txid key (0) comes before every Wtxid key (1)
 unfoldable pub key_number : Key → ℕ
-key_number k = number (2 ^ 64) (quad_words k.hash ++ (k.kind ∷ []))
+key_number k = number (2 ^ 64) (quad_words k.hash ++ (kind_number k.kind ∷ []))
 
 -- the number that rows begin from where a search starts at a key, or behind it, or at all rows
 abbrev pub start_number : Bound Key → ℕ
@@ -65,7 +66,7 @@ start_number Unbounded = 0
 
 -- the key of a row: the kind is bit 0 of its bits
 abbrev pub key_of : Row → Key
-key_of r = record { kind = r.bits % 2; hash = r.hash }
+key_of r = record { kind = kind_is (r.bits % 2); hash = r.hash }
 
 -- of a row's words: its key's number, its connection
 abbrev pub row_key : List ℕ → ℕ

@@ -12,6 +12,8 @@ ghost use Rattle.words.specs.Words.{words, recs, splice, up, down};
 ghost use Rattle.regions.specs.Regions.{Inserted, Removed, Replaced, Truncated, Copied, Found, RecordLaws, WholeLaws};
 ghost use Rattle.regions.specs.declared.Row.{Row};
 ghost use Rattle.regions.specs.declared.Conn.{Conn};
+ghost use Rattle.ident.specs.Words.{hash_num};
+ghost use Rattle.regions.specs.Keys.{Words, KeyWords};
 ghost use Rattle.regions.specs.Kinds.{row_kind, row_whole, conn_kind, conn_whole};
 ghost use Rattle.regions.specs.Order.{Sought, IsLowerBound, First};
 ghost use Rattle.regions.specs.Rows.{row_size, conn_size, quad_words, read_quad, quad_number, row_words, read_row};
@@ -39,10 +41,10 @@ pub struct Quad {
     pub w0: u64,
 }
 
-// What rows are in the order of: the kind (0 Txid, 1 Wtxid, as bit 0 of a row's bits has it), then the hash.
+// What rows are in the order of: the kind, whose number is bit 0 of a row's bits, then the hash.
 #[derive(Clone, Copy, Debug, PartialEq, Eq, PartialOrd, Ord)]
 pub struct Key {
-    pub kind: u64,
+    pub kind: ident::Kind,
     pub hash: Quad,
 }
 
@@ -63,6 +65,42 @@ pub struct Conn {
     pub conn: u64,
     pub held: u64,
     pub owned: u64,
+}
+
+// ---- hashes and keys as rows have them
+
+impl From<ident::Hash> for Quad {
+    ghost from_gives = { Words };
+
+    fn from(h: ident::Hash) -> Quad {
+        let w = h.words;
+        Quad {
+            w0: w[0],
+            w1: w[1],
+            w2: w[2],
+            w3: w[3],
+        }
+    }
+}
+
+impl From<Quad> for ident::Hash {
+    ghost from_gives = { λ q h. hash_num h ≡ quad_number q };
+
+    fn from(q: Quad) -> ident::Hash {
+        let words = [q.w0, q.w1, q.w2, q.w3];
+        ident::Hash { words }
+    }
+}
+
+impl From<ident::Key> for Key {
+    ghost from_gives = { KeyWords };
+
+    fn from(k: ident::Key) -> Key {
+        Key {
+            kind: k.kind,
+            hash: Quad::from(k.hash),
+        }
+    }
 }
 
 // ---- words of any records
@@ -317,7 +355,7 @@ pub fn key_at(s: &[u8], i: usize) -> Key
     ensures { result ≡ key_of (read_row (take row_size (drop (row_size * i) (words s.now)))) }
 {
     let a = i * ROW;
-    let kind = words::get(s, a + 8) % 2;
+    let kind = ident::Kind::from(words::get(s, a + 8) % 2);
     let hash = read_quad(s, a);
     Key { kind, hash }
 }

@@ -1,4 +1,3 @@
-pub mod Hashes
 pub mod Keeping
 pub mod Pushing
 pub mod Cutting

@@ -56,8 +56,8 @@ module _ (st : State) (s : Sound st) (k : Key) (small : k.hash < top) where
   pub its-hash : quad_of k.hash ≡ quad_of (at k st.table).key.hash
   its-hash = ap (λ (j : Key). quad_of j.hash) (sym (at_key k 0 st.table small s.bounded.ordered))
 
-  pub its-kind : kind_number k.kind ≡ kind_number (at k st.table).key.kind
-  its-kind = ap (λ (j : Key). kind_number j.kind) (sym (at_key k 0 st.table small s.bounded.ordered))
+  pub its-kind : k.kind ≡ (at k st.table).key.kind
+  its-kind = ap (λ (j : Key). j.kind) (sym (at_key k 0 st.table small s.bounded.ordered))
 
 -- ---- the mark of a request is that of its first row
 

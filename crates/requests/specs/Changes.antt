@@ -11,6 +11,7 @@ use Rattle.regions.specs.declared.Quad.{Quad}
 use Rattle.regions.specs.declared.Key.{Key as RowKey}
 use Rattle.regions.specs.declared.Row.{Row}
 use Rattle.regions.specs.Order.{Bound}
+pub use Rattle.regions.specs.Keys.{Words, KeyWords}
 use Rattle.regions.specs.Rows.{quad_of, key_number}
 use Rattle.machine.specs.State as machine
 use Rattle.machine.specs.State.{Table, State, Request, on_table, owner_is, adopting}
@@ -26,19 +27,6 @@ use Rattle.requests.specs.declared.Candidate.{Candidate}
 
 abbrev pub candidate_of : Candidate → machine.Candidate
 candidate_of c = record { connection = c.connection; item = item_num c.item; ready = c.ready; preferred = c.preferred; priority = c.priority }
-
--- the four words of a hash
-pub record Words (h : Hash) (r : Quad) : Type 0 where
-  pub words_are : r ≡ quad_of (hash_num h)
-  pub small : hash_num h < top
-
--- a key as rows have it
-pub record KeyWords (k : Key) (r : RowKey) : Type 0 where
-  pub hash : r.hash ≡ quad_of (hash_num k.hash)
-  pub kind : r.kind ≡ kind_number k.kind
-  pub bit : r.kind ≤ 1
-  pub number : key_number r ≡ place (key_num k)
-  pub small : hash_num k.hash < top
 
 -- ---- the rows of a key
 
@@ -77,7 +65,7 @@ MarkIn b from to r = (f : Flat) (d : Row) → Shows b f → one r ≡ mark_in fr
 
 -- the row of a candidate that does not own its request
 abbrev pub RowFor : RowKey → Candidate → Bool → Row → Type 0
-RowFor k c m r = (q : Request) → k.hash ≡ quad_of q.key.hash → k.kind ≡ kind_number q.key.kind → owner_is c.connection q.owner ≡ false → m ≡ q.fallback → r ≡ row_of q (candidate_of c)
+RowFor k c m r = (q : Request) → k.hash ≡ quad_of q.key.hash → k.kind ≡ q.key.kind → owner_is c.connection q.owner ≡ false → m ≡ q.fallback → r ≡ row_of q (candidate_of c)
 
 -- the item bit of a candidate that adopts another's item, or keeps its own
 abbrev pub witness_as : Bool → ItemKind → ℕ → ℕ

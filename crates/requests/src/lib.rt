@@ -16,7 +16,8 @@ ghost use Rattle.machine.specs.Fail as fail;
 ghost use Rattle.ident.specs.Number.{kind_number};
 ghost use Rattle.store.specs.Flat.{witness_bit};
 ghost use Rattle.store.specs.Shown.{limit_in, rows_in, Kept, Shown};
-ghost use Rattle.requests.specs.Changes.{candidate_of, Words, KeyWords, Spans, FoundAmong, MarkIn, RowFor, witness_as, RowAdopting, OwnedBare, FiguresOf, Makes, Tells};
+ghost use Rattle.regions.specs.Keys.{Words, KeyWords};
+ghost use Rattle.requests.specs.Changes.{candidate_of, Spans, FoundAmong, MarkIn, RowFor, witness_as, RowAdopting, OwnedBare, FiguresOf, Makes, Tells};
 
 use std::ops::Bound;
 
@@ -45,20 +46,19 @@ pub struct Window {
 pub fn hash_quad(h: ident::Hash) -> regions::Quad
     ensures { Words h result }
 {
-    let w = h.words;
-    regions::Quad {
-        w0: w[0],
-        w1: w[1],
-        w2: w[2],
-        w3: w[3],
-    }
+    regions::Quad::from(h)
 }
 
 pub fn quad_hash(q: regions::Quad) -> ident::Hash
     ensures { hash_num result ≡ quad_number q }
 {
-    let words = [q.w0, q.w1, q.w2, q.w3];
-    ident::Hash { words }
+    ident::Hash::from(q)
+}
+
+pub fn key_words(k: ident::Key) -> regions::Key
+    ensures { KeyWords k result }
+{
+    regions::Key::from(k)
 }
 
 fn witness_bit(k: ident::ItemKind) -> u64
@@ -67,18 +67,8 @@ fn witness_bit(k: ident::ItemKind) -> u64
     u64::from(k == ident::ItemKind::WitnessTransaction)
 }
 
-pub fn key_words(k: ident::Key) -> regions::Key
-    ensures { KeyWords k result }
-{
-    regions::Key {
-        kind: u64::from(k.kind),
-        hash: hash_quad(k.hash),
-    }
-}
-
 // The row of a candidate that does not own its request.
 pub fn new_row(k: regions::Key, c: Candidate, mark: bool) -> regions::Row
-    requires { k.kind ≤ 1 }
     ensures { RowFor k c mark result }
 {
     regions::Row {
@@ -87,7 +77,7 @@ pub fn new_row(k: regions::Key, c: Candidate, mark: bool) -> regions::Row
         ready: c.ready,
         prio: c.priority,
         deadline: 0,
-        bits: k.kind
+        bits: u64::from(k.kind)
             + 2 * witness_bit(c.item.kind)
             + 4 * u64::from(c.preferred)
             + 16 * u64::from(mark),
@@ -128,7 +118,7 @@ pub fn holds(s: &[u8], k: ident::Key, n: u64) -> bool
     requires { Kept s.now }
     ensures { Tells s.now (λ t. result ≡ has n (at (key_num k) t).candidates) }
 {
-    find_row(s, key_words(k), n).is_some()
+    find_row(s, regions::Key::from(k), n).is_some()
 }
 
 // ---- a connection
@@ -157,7 +147,7 @@ fn candidates_of(s: &[u8], k: ident::Key) -> usize
     requires { Kept s.now }
     ensures { (result ≤ max_announcements) × Tells s.now (λ t. result ≡ length (at (key_num k) t).candidates) }
 {
-    let key = key_words(k);
+    let key = regions::Key::from(k);
     let w = window_of(s, key);
     w.to - w.from
 }
@@ -189,7 +179,7 @@ pub fn push(s: &mut [u8], k: ident::Key, c: Candidate)
     requires { Kept s.old × (rows_in s.old < limit_in s.old) }
     ensures { Makes s.old s.new (λ t. owner_is c.connection (at (key_num k) t).owner ≡ false) (machine.push (key_num k) (candidate_of c)) }
 {
-    let key = key_words(k);
+    let key = regions::Key::from(k);
     let w = window_of(s, key);
     let mark = mark_in(s, w.from, w.to);
     let r = new_row(key, c, mark);
@@ -202,7 +192,7 @@ pub fn cut(s: &mut [u8], k: ident::Key, n: u64)
     requires { Kept s.old }
     ensures { Makes s.old s.new (λ t. (has n (at (key_num k) t).candidates ≡ true) × (owner_is n (at (key_num k) t).owner ≡ false)) (machine.cut (key_num k) n) }
 {
-    if let Some(i) = find_row(s, key_words(k), n) {
+    if let Some(i) = find_row(s, regions::Key::from(k), n) {
         store::rows::drop_row(s, i);
         store::counting::count_out(s, n, 0);
     }
@@ -234,7 +224,7 @@ pub fn adopt(s: &mut [u8], k: ident::Key, c: Candidate, same: bool)
     requires { Kept s.old }
     ensures { Makes s.old s.new (λ t. has c.connection (at (key_num k) t).candidates ≡ true) (machine.adopted same (key_num k) (candidate_of c)) }
 {
-    if let Some(i) = find_row(s, key_words(k), c.connection) {
+    if let Some(i) = find_row(s, regions::Key::from(k), c.connection) {
         let r = store::rows::row_at(s, i);
         store::rows::set_row(s, i, adopted_row(r, c, same));
     }
@@ -269,7 +259,7 @@ pub fn own(s: &mut [u8], k: ident::Key, n: u64, deadline: u64)
     requires { Kept s.old }
     ensures { Makes s.old s.new (λ t. (has n (at (key_num k) t).candidates ≡ true) × ((at (key_num k) t).owner ≡ none)) (change (key_num k) (owned_until n deadline)) }
 {
-    if let Some(i) = find_row(s, key_words(k), n) {
+    if let Some(i) = find_row(s, regions::Key::from(k), n) {
         let r = store::rows::row_at(s, i);
         store::rows::set_row(s, i, owned_row(r, deadline));
         store::counting::recount(s, n, 0, 1);
@@ -281,7 +271,7 @@ pub fn disown(s: &mut [u8], k: ident::Key, n: u64)
     requires { Kept s.old }
     ensures { Makes s.old s.new (λ t. OwnedBare n (at (key_num k) t)) (change (key_num k) unowned) }
 {
-    if let Some(i) = find_row(s, key_words(k), n) {
+    if let Some(i) = find_row(s, regions::Key::from(k), n) {
         let r = store::rows::row_at(s, i);
         store::rows::set_row(s, i, unowned_row(r));
         store::counting::recount(s, n, 1, 0);
@@ -295,7 +285,7 @@ pub fn ready_all(s: &mut [u8], k: ident::Key, v: u64)
     requires { Kept s.old }
     ensures { Makes s.old s.new (λ t. Unit {0}) (change (key_num k) (λ r. with_candidates (map (ready_at v) r.candidates) r)) }
 {
-    let key = key_words(k);
+    let key = regions::Key::from(k);
     let w = window_of(s, key);
     store::stamps::ready_rows(s, w.from, w.to, v);
 }
@@ -305,7 +295,7 @@ pub fn mark(s: &mut [u8], k: ident::Key)
     requires { Kept s.old }
     ensures { Makes s.old s.new (λ t. Unit {0}) (fail.mark (key_num k)) }
 {
-    let key = key_words(k);
+    let key = regions::Key::from(k);
     let w = window_of(s, key);
     store::stamps::mark_rows(s, w.from, w.to);
 }

@@ -28,7 +28,7 @@ pub fn drop_all(s: &mut [u8], k: ident::Key)
     requires { Kept s.old }
     ensures { Makes s.old s.new (λ t. (at (key_num k) t).owner ≡ none) (forget (key_num k)) }
 {
-    let key = crate::key_words(k);
+    let key = regions::Key::from(k);
     let w = crate::window_of(s, key);
     let from = w.from;
     let to = w.to;

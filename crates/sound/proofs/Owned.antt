@@ -22,7 +22,8 @@ use Rattle.machine.proofs.Tests.{test}
 use Rattle.store.specs.Gather.{key_at}
 use Rattle.store.specs.FlatSound.{count_rows, hash_at, owns, owns_key}
 use Rattle.store.proofs.Counts.{rows_append}
-use Rattle.store.proofs.Keys.{key-number}
+use Rattle.ident.specs.declared.Kind.TheVariants.{Wtxid}
+use Rattle.regions.proofs.Hashes.{key_place}
 use Rattle.sound_rows.specs.Rows.{RowsSound}
 use Rattle.sound_rows.specs.Groups.{row_at, rows_in, Run}
 use Rattle.sound_rows.proofs.Decide.{rest_all}
@@ -73,11 +74,11 @@ count_same p q [] e = refl
 count_same p q (r ∷ rs) e = rw (e.0, count_same p q rs e.1)
 
 -- the place of a Wtxid key
-wtxid-number : (q : Quad) → key_number (record { kind = 1; hash = q }) ≡ top + quad_number q
-wtxid-number q = let e : key_number (record { kind = 1; hash = q }) ≡ top + quad_number q = key-number (record { kind = 1; hash = q }) (omega arith) in omega arith
+wtxid-number : (q : Quad) → key_number (record { kind = Wtxid; hash = q }) ≡ top + quad_number q
+wtxid-number q = let e : key_number (record { kind = Wtxid; hash = q }) ≡ top + quad_number q = key_place (record { kind = Wtxid; hash = q }) in omega arith
 
 module _ (n : ℕ) (w : List ℕ) (s : RowsSound (recs row_size read_row n w)) (q : Quad) (from to : ℕ)
-    (b : Sought (recs row_size row_key n w) n (key_number (record { kind = 1; hash = q })) from) (v : Run w from n (quad_number q) to) where
+    (b : Sought (recs row_size row_key n w) n (key_number (record { kind = Wtxid; hash = q })) from) (v : Run w from n (quad_number q) to) where
   bound : Bound (recs row_size row_key n w) (top + quad_number q) from
   bound = rw (wtxid-number q) at (b.bound (keys-sorted n w s))
 

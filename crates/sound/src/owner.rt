@@ -59,7 +59,10 @@ pub fn is_owned(rows: Records<Row>, h: Quad, i: usize) -> bool
     ensures { RowsSound (recs row_size read_row rows.entry.count (words rows.entry.bytes.now))
         → Decides result (1 ≤ count_rows (owns_key (quad_number h)) (recs row_size read_row rows.entry.count (words rows.entry.bytes.now))) }
 {
-    let k = Key { kind: 1, hash: h };
+    let k = Key {
+        kind: ident::Kind::Wtxid,
+        hash: h,
+    };
     let from = seek_near(rows, k, i);
     let to = group::run_end(Part::new(rows, from, rows.count), h);
     group::owners(Part::new(rows, from, to)) >= 1
@@ -67,7 +70,10 @@ pub fn is_owned(rows: Records<Row>, h: Quad, i: usize) -> bool
 
 // Where the rows of the Wtxid key of the hash h begin: a walk from the row `at` on, and a search if they are not near it.
 pub fn walk_to(rows: Records<Row>, h: Quad, at: usize) -> usize {
-    let k = Key { kind: 1, hash: h };
+    let k = Key {
+        kind: ident::Kind::Wtxid,
+        hash: h,
+    };
     for i in at..rows.count {
         if i - at >= NEAR {
             return regions::seek_row(rows.bytes, rows.count, Bound::Included(k));

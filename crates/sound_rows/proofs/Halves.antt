@@ -7,7 +7,7 @@ use native.Mathlib.Omega.{arith}
 use lib.ListN.{length, get_or}
 use Rattle.ident.specs.declared.Kind.{Kind}
 use Rattle.ident.specs.declared.Kind.TheVariants.{Txid, Wtxid}
-use Rattle.ident.specs.Number.{top, base, place}
+use Rattle.ident.specs.Number.{top, base, place, kind_is}
 use Rattle.words.specs.Words.{number, recs}
 use Rattle.words.proofs.Records.{length-recs, recs_at}
 use Rattle.regions.specs.declared.Row.{Row}
@@ -15,7 +15,7 @@ use Rattle.regions.specs.declared.Key.{Key}
 use Rattle.regions.specs.Order.{Sorted, Bound, Sought}
 use Rattle.regions.specs.Rows.{row_size, read_row, row_key, key_number}
 use Rattle.machine.specs.Typed.{Each}
-use Rattle.store.specs.Gather.{kind_is, key_at}
+use Rattle.store.specs.Gather.{key_at}
 use Rattle.store.specs.FlatSound.{hash_at, RowFits, Ascending}
 use Rattle.store.proofs.Keys.{row_number}
 use Rattle.store.proofs.Quads.{number-top}
@@ -63,7 +63,7 @@ kind-wtxid r f h = go (kind_is (r.bits % 2)) h
 
 -- the least Wtxid key
 abbrev pub first_wtxid : Key
-first_wtxid = record { kind = 1; hash = record { w0 = 0; w1 = 0; w2 = 0; w3 = 0 } }
+first_wtxid = record { kind = Wtxid; hash = record { w0 = 0; w1 = 0; w2 = 0; w3 = 0 } }
 
 pub first_top : key_number first_wtxid ≡ top
 unfolding key_number number top

@@ -150,7 +150,7 @@ pub fn groups_fit(rows: Records<Row>, most: usize) -> bool
         w3: 0,
     };
     let first = Key {
-        kind: 1,
+        kind: ident::Kind::Wtxid,
         hash: zero,
     };
     let n = rows.count;

@@ -18,7 +18,7 @@ use Rattle.store.specs.Flat.{flat_of, rows_of}
 use Rattle.store.specs.Shown.{rows_in, row_numbers, Seek}
 use Rattle.store.proofs.Frame.{sizes}
 use Rattle.requests.proofs.Keeping.{rows_in_order, to_at}
-use Rattle.requests.specs.Changes.{KeyWords}
+use Rattle.regions.specs.Keys.{KeyWords}
 use Rattle.cursors.specs.InWords.{known_at, cursor_in}
 use Rattle.cursors.proofs.InState.{known_read}
 use Rattle.sweeping.specs.Batches.{keys_over, BeginsAt, AfterCursor, AfterKnown}

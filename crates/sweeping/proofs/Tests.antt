@@ -8,19 +8,34 @@ use native.Mathlib.Omega.{arith}
 use lib.Dec.{eqb}
 use lib.ListN.{length, get_or}
 use borrow.Author.Tests.{eqb-true, eqb-false, eq-eqb}
-use Rattle.ident.specs.Number.{place}
+use Rattle.ident.specs.declared.Kind.{Kind}
+use Rattle.ident.specs.declared.Kind.TheVariants.{Txid, Wtxid}
+use Rattle.ident.specs.contracts.KindPartialEq.TheImpl.{eq-value as kind_eq}
+use Rattle.ident.specs.Number.{place, kind_number}
 use Rattle.regions.specs.declared.Row.{Row}
 use Rattle.regions.specs.declared.Key.{Key as RowKey}
 use Rattle.regions.specs.contracts.KeyPartialEq.TheImpl.{eq-value as key_eq}
 use Rattle.regions.specs.Rows.{key_number, key_of}
 use Rattle.regions.proofs.Order.{Small}
 use Rattle.words.specs.Words.{number}
-use Rattle.machine.proofs.Tests.{test, and_left, and_right}
+use Rattle.machine.proofs.Tests.{test, never, and_left, and_right}
 use Rattle.store.specs.Gather.{key_at}
 use Rattle.store.proofs.Keys.{row_number}
 use Rattle.announcing.specs.Evicts.{part}
 use Rattle.sweeping.specs.Batches.{last_row}
 use Rattle.sweeping.proofs.Rounds.{part_more, part_none}
+
+same_kind : (k j : Kind) → kind_number k ≡ kind_number j → kind_eq.it k j ≡ true
+same_kind Txid Txid e = refl
+same_kind Txid Wtxid e = absurd (omega (arith, e))
+same_kind Wtxid Txid e = absurd (omega (arith, e))
+same_kind Wtxid Wtxid e = refl
+
+kinds_same : (k j : Kind) → kind_eq.it k j ≡ true → k ≡ j
+kinds_same Txid Txid e = refl
+kinds_same Txid Wtxid e = never e
+kinds_same Wtxid Txid e = never e
+kinds_same Wtxid Wtxid e = refl
 
 -- `==` on the keys of rows is that of their numbers
 one_number : (a b : RowKey) → Small a.hash → Small b.hash → key_eq.it a b ≡ eqb (key_number a) (key_number b)
@@ -30,7 +45,7 @@ one_number a b p q = elim (test (eqb (key_number a) (key_number b))) [
       let e = eqb-true (key_number a) (key_number b) t in
       rw (
         t,
-        eq-eqb a.kind b.kind (omega (arith, e, p, q)),
+        same_kind a.kind b.kind (omega (arith, e, p, q)),
         eq-eqb a.hash.w3 b.hash.w3 (omega (arith, e, p, q)),
         eq-eqb a.hash.w2 b.hash.w2 (omega (arith, e, p, q)),
         eq-eqb a.hash.w1 b.hash.w1 (omega (arith, e, p, q)),
@@ -44,8 +59,8 @@ one_number a b p q = elim (test (eqb (key_number a) (key_number b))) [
   where
     whole : key_eq.it a b ≡ true → key_number a ≡ key_number b
     whole u =
-        let k = eqb-true a.kind b.kind (and_left (eqb a.kind b.kind) _ u) in
-        let r₃ = and_right (eqb a.kind b.kind) _ u in
+        let k = kinds_same a.kind b.kind (and_left (kind_eq.it a.kind b.kind) _ u) in
+        let r₃ = and_right (kind_eq.it a.kind b.kind) _ u in
         let r₂ = and_right (eqb a.hash.w3 b.hash.w3) _ r₃ in
         let r₁ = and_right (eqb a.hash.w2 b.hash.w2) _ r₂ in
         let r₀ = and_right (eqb a.hash.w1 b.hash.w1) _ r₁ in

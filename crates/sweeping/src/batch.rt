@@ -84,7 +84,7 @@ pub fn after_cursor(s: &[u8], c: Option<ident::Key>) -> usize
     let Some(k) = c else {
         return 0;
     };
-    store::rows::seek_row(s, Bound::Excluded(requests::key_words(k)))
+    store::rows::seek_row(s, Bound::Excluded(regions::Key::from(k)))
 }
 
 // The first row whose key comes after the known cursor.

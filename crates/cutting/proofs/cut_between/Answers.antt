@@ -12,13 +12,13 @@ pub count_less-requires : goal.count_less-requires
 count_less-requires c =
     let kept = c.requires in
     dropped-shown kept.state kept.sound (stays c.args.n
-    c.key_words-a.result c.key_words-b.result)
+    c.from-a.result c.from-b.result)
     (c.drop_rows-d.ensures.rows (flat_of kept.state) kept.writes)
 
 pub returns : goal.returns
 returns c = λ st s w _.
-    let from = c.key_words-a in
-    let to = c.key_words-b in
+    let from = c.from-a in
+    let to = c.from-b in
     let dropped = c.drop_rows-d.ensures in
     cuts_made st s c.args.n
     (key_num c.args.from)

@@ -31,7 +31,7 @@ pub loop-p-preserved : goal.loop-p-preserved
 loop-p-preserved c =
     let given = c.requires in
     let taken = c.loop-p-test.true in
-    let quad = c.hash_quad-h.ensures in
+    let quad = c.from-h.ensures in
     let word = c.rows-n.ensures.word in
     let second = rw word at c.along-b.ensures in
     walking_more c.loop-p.invariant given.1

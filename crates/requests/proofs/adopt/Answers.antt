@@ -23,7 +23,7 @@ pub returns-in-Some : goal.returns-in-Some
 returns-in-Some c = λ st s w p.
     let k = key_num c.args.k in
     let n = c.args.c.connection in
-    let key = c.key_words.ensures in
+    let key = c.from.ensures in
     let f = among n (at k st.table).candidates p in
     let i = found-ahead st s k key.small key.number w n f c.in-Some.ensures in
     let q = c.row_at-r.ensures (flat_of st) c.row_at-r.result w ∙
@@ -36,6 +36,6 @@ pub returns-in_default : goal.returns-in_default
 returns-in_default c = λ st s w p.
     let k = key_num c.args.k in
     let n = c.args.c.connection in
-    let key = c.key_words.ensures in
+    let key = c.from.ensures in
     let f = among n (at k st.table).candidates p in
     absurd (never-missing st s k key.small key.number w n f c.in_default.ensures)

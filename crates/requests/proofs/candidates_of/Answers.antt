@@ -10,7 +10,7 @@ returns c =
       omega (arith, shown.sizes, shown.sized, c.window_of-w.ensures.most),
       λ st s w.
           let k = key_num c.args.k in
-          let key = c.key_words-key.ensures in
+          let key = c.from-key.ensures in
           window-size k st.table (from_at st s k key.small key.number (c.window_of-w.ensures.from_is st s w))
           (to_at st s k key.small key.number (c.window_of-w.ensures.to_is st s w)),
     )

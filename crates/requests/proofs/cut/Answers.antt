@@ -26,7 +26,7 @@ pub returns-in-Some : goal.returns-in-Some
 returns-in-Some c = λ st s w p.
     let k = key_num c.args.k in
     let n = c.args.n in
-    let key = c.key_words.ensures in
+    let key = c.from.ensures in
     let f = among n (at k st.table).candidates p.0 in
     let i = found-ahead st s k key.small key.number w n f c.in-Some.ensures in
     cut_made st s k n p.1 f i (c.count_out.ensures _ (conns_in_order (rows_of st.table)) (c.drop_row.ensures (flat_of st) w))
@@ -35,6 +35,6 @@ pub returns-in_default : goal.returns-in_default
 returns-in_default c = λ st s w p.
     let k = key_num c.args.k in
     let n = c.args.n in
-    let key = c.key_words.ensures in
+    let key = c.from.ensures in
     let f = among n (at k st.table).candidates p.0 in
     absurd (never-missing st s k key.small key.number w n f c.in_default.ensures)

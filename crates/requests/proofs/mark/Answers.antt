@@ -14,7 +14,7 @@ mark_rows-requires c = (kept_shown c.requires, c.window_of-w.ensures.order, c.wi
 pub returns : goal.returns
 returns c = λ st s w u.
     let k = key_num c.args.k in
-    let key = c.key_words-key.ensures in
+    let key = c.from-key.ensures in
     let from = from_at st s k key.small key.number (c.window_of-w.ensures.from_is st s w) in
     let to = to_at st s k key.small key.number (c.window_of-w.ensures.to_is st s w) in
     window_made marked_row (λ q. refl) marked-owns st s k marked (marked-rows (at k st.table)) (marked-places (at k st.table)) (λ z. z) from to

@@ -34,7 +34,7 @@ count_in-requires c =
 pub returns : goal.returns
 returns c = λ st s w o.
     let k = key_num c.args.k in
-    let key = c.key_words-key.ensures in
+    let key = c.from-key.ensures in
     let from = from_at st s k key.small key.number (c.window_of-w.ensures.from_is st s w) in
     let to = to_at st s k key.small key.number (c.window_of-w.ensures.to_is st s w) in
     let d = c.new_row-r.result in

@@ -14,7 +14,7 @@ ready_rows-requires c = (kept_shown c.requires, c.window_of-w.ensures.order, c.w
 pub returns : goal.returns
 returns c = λ st s w u.
     let k = key_num c.args.k in
-    let key = c.key_words-key.ensures in
+    let key = c.from-key.ensures in
     let from = from_at st s k key.small key.number (c.window_of-w.ensures.from_is st s w) in
     let to = to_at st s k key.small key.number (c.window_of-w.ensures.to_is st s w) in
     let v = c.args.v in

@@ -15,8 +15,8 @@ greatest_in-requires c = (kept_shown c.requires, c.window_of-y.ensures.order, c.
 pub returns : goal.returns
 returns c = λ st s w.
     let h = hash_num c.args.h in
-    let a = c.key_words-a.ensures in
-    let b = c.key_words-b.ensures in
+    let a = c.from-a.ensures in
+    let b = c.from-b.ensures in
     let x = c.window_of-x.ensures in
     let y = c.window_of-y.ensures in
     found_at_hash h a.small st.table s.bounded.ordered s.bounded.lawful refl

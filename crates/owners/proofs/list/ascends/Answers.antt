@@ -13,7 +13,7 @@ returns-then-not-quad_less c =
     let i = c.loop-i.i in
     let e : i ≡ i - 1 + 1 = omega arith in
     breaks hs (i - 1) (omega (arith, c.loop-i-test.true, c.hashes-i-end.ensures)) c.loop-i.invariant
-    (c.quad_less.ensures ∙ (λ j. ltb (quad_is c.hash_quad-a.ensures c.hash_in.ensures j) (quad_is c.hash_quad-b.ensures (rw e at c.hash_in-in-loop-i.ensures) j))) c.if-not-quad_less.true
+    (c.quad_less.ensures ∙ (λ j. ltb (quad_is c.from-a.ensures c.hash_in.ensures j) (quad_is c.from-b.ensures (rw e at c.hash_in-in-loop-i.ensures) j))) c.if-not-quad_less.true
 
 pub loop-i-preserved : goal.loop-i-preserved
 loop-i-preserved c =
@@ -22,7 +22,7 @@ loop-i-preserved c =
     let e : i ≡ i - 1 + 1 = omega arith in
     let f : i + 1 - 1 ≡ i - 1 + 1 = omega arith in
     rw f (goes_on_lem hs (i - 1) (omega (arith, c.loop-i-test.true, c.hashes-i-end.ensures)) c.loop-i.invariant
-    (c.quad_less.ensures ∙ (λ j. ltb (quad_is c.hash_quad-a.ensures c.hash_in.ensures j) (quad_is c.hash_quad-b.ensures (rw e at c.hash_in-in-loop-i.ensures) j))) c.if-not-quad_less.false)
+    (c.quad_less.ensures ∙ (λ j. ltb (quad_is c.from-a.ensures c.hash_in.ensures j) (quad_is c.from-b.ensures (rw e at c.hash_in-in-loop-i.ensures) j))) c.if-not-quad_less.false)
 
 pub returns : goal.returns
 returns c = sym (c.loop-i.invariant ∙ ended (hashes_in c.args.hashes.now) (c.loop-i.i - 1) (omega (arith, c.loop-i-test.false, c.hashes-i-end.ensures)))

@@ -9,4 +9,4 @@ pub seek_row-requires : goal.seek_row-requires
 seek_row-requires c = kept_shown c.requires
 
 pub returns : goal.returns
-returns c = rw c.in-Some.is (after_some c.in-Some.k c.key_words.ensures c.seek_row.ensures, begins_some c.key_words.ensures c.seek_row.ensures)
+returns c = rw c.in-Some.is (after_some c.in-Some.k c.from.ensures c.seek_row.ensures, begins_some c.from.ensures c.seek_row.ensures)

@@ -1,8 +1,8 @@
--- `requests::quad_hash` meets its contract: both numbers are the same four words.
+-- `From<Quad>` of a hash meets its contract: both numbers are the same four words.
 use mathlib.Core.Path.{refl}
 use Rattle.words.specs.Words.{number}
 use Rattle.regions.specs.Rows.{quad_number}
-use Rattle.requests.proofs.quad_hash.Goals as goal
+use Rattle.regions.proofs.IdentHashFromQuad.from.Goals as goal
 
 pub returns : goal.returns
 unfolding quad_number number
