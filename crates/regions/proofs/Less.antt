@@ -67,7 +67,8 @@ keys-derived : (a b : Key) → (KeyOrder.ghosts).partial_cmp a b ≡ partial_ord
 unfolding digits_of
 keys-derived a b = ranked a.kind b.kind a.hash b.hash
   where
-    ranked : (k j : Kind) (g h : Quad) → (KeyOrder.ghosts).partial_cmp (record { kind = k; hash = g }) (record { kind = j; hash = h }) ≡ partial_ordering_then (Some (nat_cmp (kind_number k) (kind_number j))) (digits_of g h)
+    ranked : (k j : Kind) (g h : Quad) → (KeyOrder.ghosts).partial_cmp (record { kind = k; hash = g }) (record { kind = j; hash = h })
+        ≡ partial_ordering_then (Some (nat_cmp (kind_number k) (kind_number j))) (digits_of g h)
     ranked Txid Txid g h = refl
     ranked Txid Wtxid g h = refl
     ranked Wtxid Txid g h = refl
