@@ -44,7 +44,7 @@ pub fn parent_of(slot: &[u8; SLOT], j: usize) -> ident::Hash
     requires { j < list_most }
     ensures { hash_num result ≡ parent_in (words slot.now) j }
 {
-    requests::quad_hash(places::read_parent(slot, 0, j))
+    ident::Hash::from(places::read_parent(slot, 0, j))
 }
 
 // Announces the parents from .. to beside those before them that wait; answers the bits of those kept.

@@ -154,7 +154,7 @@ fn find_hash(s: &[u8], m: usize, first: &[u8], n: usize, h: ident::Hash) -> Opti
     requires { Room s.now first.now m n }
     ensures { SpotIn s.now first.now m n (wtxid (hash_num h)) result }
 {
-    let q = requests::hash_quad(h);
+    let q = regions::Quad::from(h);
     let i = seek(s, m, first, n, q);
     if n <= i {
         return None;

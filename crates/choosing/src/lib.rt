@@ -150,7 +150,7 @@ pub fn window_as(s: &[u8], kind: ident::Kind, h: ident::Hash) -> requests::Windo
     requires { Kept s.now }
     ensures { WindowAs s.now kind (hash_num h) result }
 {
-    let key = requests::key_words(ident::Key { kind, hash: h });
+    let key = regions::Key::from(ident::Key { kind, hash: h });
     requests::window_of(s, key)
 }
 

@@ -88,7 +88,7 @@ pub fn waiting_row(s: &[u8], k: ident::Key, c: requests::Candidate) -> regions::
     requires { Kept s.now }
     ensures { RowIn s.now (key_num k) (candidate_of c) result }
 {
-    let key = requests::key_words(k);
+    let key = regions::Key::from(k);
     let w = requests::window_of(s, key);
     let mark = requests::mark_in(s, w.from, w.to);
     requests::new_row(key, c, mark)

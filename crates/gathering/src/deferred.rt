@@ -25,7 +25,7 @@ fn listed_at(top: &Victims, n: usize, h: ident::Hash) -> bool
     for i in 0..n {
         let x = regions::read::<regions::Row>(&top.rows, i);
         let q = x.hash;
-        let g = requests::quad_hash(q);
+        let g = ident::Hash::from(q);
         if lent_lists::same_hash(g, h) {
             return true;
         }
@@ -69,7 +69,7 @@ fn suits(
         return Fare::Alone;
     }
     let q = y.hash;
-    let v = requests::quad_hash(q);
+    let v = ident::Hash::from(q);
     if new.waits_at(v) {
         return Fare::Alone;
     }

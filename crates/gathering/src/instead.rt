@@ -35,7 +35,7 @@ fn suits(s: &[u8], new: Rows, k: ident::Key, c: requests::Candidate, y: regions:
         return Fare::Alone;
     }
     let q = y.hash;
-    let v = requests::quad_hash(q);
+    let v = ident::Hash::from(q);
     if new.waits_at(v) {
         return Fare::Alone;
     }

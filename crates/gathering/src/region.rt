@@ -44,8 +44,8 @@ impl<'a> Rows<'a> {
         requires { self.count ≤ space }
         ensures { WaitsAt (words self.entry.bytes.now) self.entry.count (hash_num h) result }
     {
-        let a = requests::key_words(ident::Key::from(ident::Txid(h)));
-        let b = requests::key_words(ident::Key::from(ident::Wtxid(h)));
+        let a = regions::Key::from(ident::Key::from(ident::Txid(h)));
+        let b = regions::Key::from(ident::Key::from(ident::Wtxid(h)));
         self.has_key(a) || self.has_key(b)
     }
 }

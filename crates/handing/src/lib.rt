@@ -36,7 +36,7 @@ fn copy_conns(s: &[u8], k: ident::Key, conns: &mut [u8]) -> usize
     requires { Kept s.now × (8 * max_alternates ≤ length conns.old) }
     ensures { (8 * result ≤ length conns.old) × Tells s.now (λ t. conns_in result conns.new ≡ conns_of (at (key_num k) t).candidates) }
 {
-    let key = requests::key_words(k);
+    let key = regions::Key::from(k);
     let w = requests::window_of(s, key);
     let from = w.from;
     let n = w.to - from;
@@ -147,7 +147,7 @@ fn is_owner(s: &[u8], k: ident::Key, n: Connection, guess: Option<usize>) -> See
         let i = store::rows::find_row(s, from, rows, n.number);
         if i < rows {
             let r = store::rows::row_at(s, i);
-            let key = requests::key_words(k);
+            let key = regions::Key::from(k);
             if has_key(r, key) {
                 return Seen {
                     owner: r.bits / 8 % 2 == 1,
@@ -173,7 +173,7 @@ fn is_single(s: &[u8], k: ident::Key) -> bool
     requires { Kept s.now }
     ensures { result ≡ true → Tells s.now (λ t. length (at (key_num k) t).candidates ≡ 1) }
 {
-    let key = requests::key_words(k);
+    let key = regions::Key::from(k);
     let w = requests::window_of(s, key);
     w.to - w.from == 1
 }

@@ -188,6 +188,7 @@ pub fn same_hash_other_kind(k: Key) -> Key
     }
 }
 
+// (These two differ in the kind alone: one impl for both would need a trait that names the kind.)
 impl From<Txid> for Key {
     ghost from_gives = { λ t k. key_num k ≡ txid (hash_num t.0) };
 

@@ -27,6 +27,7 @@ pub fn hash_in(s: &[u8], i: usize) -> ident::Hash
     ident::hash_at(s, i * ident::HASH_BYTES)
 }
 
+// The derived test, which by this clause is one of the numbers.
 pub fn same_hash(a: ident::Hash, b: ident::Hash) -> bool
     ensures { result ≡ eqb (hash_num a) (hash_num b) }
 {
@@ -71,7 +72,7 @@ pub fn items(b: &[u8]) -> usize
     b.len() / ITEM
 }
 
-// The kind that a type's word names. From 2^32 on it is an other item's, so that every item can be given.
+// The kind that a type's word names. From 2^32 on it is an other item's, so that every item can be given. (No From: ItemKind's is of a type number, which has 32 bits.)
 fn kind_in(w: u64) -> ident::ItemKind
     ensures { result ≡ item_kind_in w }
 {

@@ -74,6 +74,7 @@ pub fn put_bytes(s: &mut [u8], a: usize, t: &[u8]) -> usize
     end
 }
 
+// The letter is of the texts: a kind's own conversion gives its number.
 fn kind_letter(k: ident::Kind) -> u8
     ensures { result ≡ kind_letter k }
 {

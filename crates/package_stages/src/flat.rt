@@ -73,7 +73,7 @@ pub fn push_wtxids(s: &mut [u8], i: usize, list: &[u8])
     let n = lent_lists::hashes(list);
     for j in 0..n {
         let h = lent_lists::hash_in(list, j);
-        let q = requests::hash_quad(h);
+        let q = regions::Quad::from(h);
         push_wtxid(s, i, j, q);
     }
 }

@@ -47,7 +47,7 @@ pub fn seek(s: &[u8], h: ident::Hash) -> Result<usize, usize>
     requires { Kept s.now }
     ensures { Sought s.now (hash_num h) result }
 {
-    let q = requests::hash_quad(h);
+    let q = regions::Quad::from(h);
     let at = flat::seek_place(s, q);
     if at < store::head::held_places(s) {
         let p = store::package_places::place_at(s, at);
@@ -67,6 +67,19 @@ pub enum Stage {
     Flagged,
     Awaiting,
     Enqueued,
+}
+
+impl From<Stage> for u64 {
+    ghost from_gives = { λ s n. n ≡ stage_word (Some s) };
+
+    // The word of a place that stands for the stage.
+    fn from(stage: Stage) -> u64 {
+        match stage {
+            Stage::Flagged => FLAG,
+            Stage::Awaiting => AWAITING,
+            Stage::Enqueued => ENQUEUED,
+        }
+    }
 }
 
 // The stage that the word of a place stands for; 0 is none.
@@ -150,7 +163,7 @@ pub fn request_at(s: &[u8], k: ident::Key) -> Request
     requires { Kept s.now }
     ensures { RequestAt s.now (key_num k) result }
 {
-    let key = requests::key_words(k);
+    let key = regions::Key::from(k);
     let w = requests::window_of(s, key);
     let from = w.from;
     let to = w.to;
@@ -192,7 +205,7 @@ pub fn combined_at(s: &[u8], i: usize) -> ident::Hash
 {
     let p = store::package_places::place_at(s, i);
     let c = p.combined;
-    requests::quad_hash(c)
+    ident::Hash::from(c)
 }
 
 pub fn parent_at(s: &[u8], i: usize, j: usize) -> ident::Hash
@@ -200,7 +213,7 @@ pub fn parent_at(s: &[u8], i: usize, j: usize) -> ident::Hash
     ensures { ReadAt s.now i (λ q. j < length q.parents → hash_num result ≡ get_or q.parents j 0) }
 {
     let q = flat::read_parent(s, i, j);
-    requests::quad_hash(q)
+    ident::Hash::from(q)
 }
 
 pub fn wtxid_at(s: &[u8], i: usize, j: usize) -> ident::Hash
@@ -208,7 +221,7 @@ pub fn wtxid_at(s: &[u8], i: usize, j: usize) -> ident::Hash
     ensures { ReadAt s.now i (λ q. j < length (wtxids_of q.«package») → hash_num result ≡ get_or (wtxids_of q.«package») j 0) }
 {
     let q = flat::read_wtxid(s, i, j);
-    requests::quad_hash(q)
+    ident::Hash::from(q)
 }
 
 // ---- flag, package and parents changed, at the Wtxid key with hash h
@@ -219,7 +232,7 @@ pub fn open_info(s: &mut [u8], h: ident::Hash)
     ensures { Makes s.old s.new (λ t. OwnedPlain (at (wtxid (hash_num h)) t)) (change (wtxid (hash_num h)) flagged) }
 {
     let (Ok(i) | Err(i)) = seek(s, h);
-    let q = requests::hash_quad(h);
+    let q = regions::Quad::from(h);
     store::package_places::open_place(s, i, q, FLAG);
 }
 
@@ -230,7 +243,7 @@ pub fn add_parent(s: &mut [u8], h: ident::Hash, parent: ident::Hash)
 {
     if let Ok(i) = seek(s, h) {
         let n = parents(s, i);
-        let q = requests::hash_quad(parent);
+        let q = regions::Quad::from(parent);
         if n < MAX_PARENTS {
             flat::push_parent(s, i, n, q);
         }
@@ -245,7 +258,7 @@ pub fn claim(s: &mut [u8], h: ident::Hash, combined: ident::Hash, list: &[u8])
 {
     if let Ok(i) = seek(s, h) {
         let x = store::package_places::place_at(s, i);
-        let q = requests::hash_quad(combined);
+        let q = regions::Quad::from(combined);
         if x.stage == FLAG {
             flat::push_wtxids(s, i, list);
             flat::set_combined(s, i, q);

@@ -113,7 +113,7 @@ pub fn seek_place(s: &[u8], n: usize, h: regions::Quad) -> usize
 
 // ---- parts of a place
 
-// Stores the i-th place's stage.
+// Stores the i-th place's stage, any word.
 pub fn set_stage(s: &mut [u8], i: usize, v: u64)
     requires { 8 * (place_size * (i + 1)) ≤ length s.old }
     ensures { Changed place_size place_words (words s.old) (words s.new) i stage_at (v ∷ []) (with_stage v) }
@@ -145,7 +145,7 @@ pub fn read_parent(s: &[u8], i: usize, j: usize) -> regions::Quad
     regions::read_quad(s, i * PLACE + (PARENTS + j * 4))
 }
 
-// Puts h behind the n wtxids of the i-th place.
+// Puts h behind the n wtxids of the i-th place. (One function for both lists would need a trait with two constants and two ghost members, longer than the two.)
 pub fn push_wtxid(s: &mut [u8], i: usize, n: usize, h: regions::Quad)
     requires { (n < list_most) × (8 * (place_size * (i + 1)) ≤ length s.old) }
     ensures { Pushed (words s.old) (words s.new) i (λ p. p.wtxids) with_wtxids n (quad_number h) }

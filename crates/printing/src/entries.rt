@@ -18,7 +18,7 @@ pub fn put_key(out: &mut [u8], at: usize, k: ident::Key) -> usize
 {
     let kind = k.kind;
     let hash = k.hash;
-    lines::write::put_key(out, at, kind, requests::hash_quad(hash))
+    lines::write::put_key(out, at, kind, regions::Quad::from(hash))
 }
 
 fn put_kind(out: &mut [u8], at: usize, k: ident::ItemKind) -> usize
@@ -44,7 +44,7 @@ fn put_item(out: &mut [u8], at: usize, i: ident::Item) -> usize
     let kind = i.kind;
     let hash = i.hash;
     let e = put_kind(out, at, kind);
-    lines::write::put_hash(out, e, requests::hash_quad(hash))
+    lines::write::put_hash(out, e, regions::Quad::from(hash))
 }
 
 // Behind a comma.

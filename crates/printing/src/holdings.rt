@@ -42,7 +42,7 @@ pub fn put_owners(out: &mut [u8], answer: &[u8], hashes: &[u8], passed: u64) -> 
     let n = lent_lists::hashes(hashes);
     let mut to = lines::write::put_decimal(out, 0, passed);
     for i in 0..n {
-        let h = requests::hash_quad(lent_lists::hash_in(hashes, i));
+        let h = regions::Quad::from(lent_lists::hash_in(hashes, i));
         to = put_owner(out, to, answer, i, h);
     }
     to

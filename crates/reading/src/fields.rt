@@ -14,6 +14,7 @@ pub struct Parsed<T> {
 }
 
 impl<T> Parsed<T> {
+    // As an Option's: the value goes over, the end stays.
     pub fn map<U, F: FnOnce(T) -> U>(self, f: F) -> Parsed<U>
         requires { F.pre f self.value }
         ensures value { F.post f self.value result.value }

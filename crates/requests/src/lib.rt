@@ -8,7 +8,7 @@ ghost use Rattle.std.specs.Prelude.{◌≡◌, ◌+◌, ◌-◌, ◌≤◌, ◌<
 ghost use Rattle.std.proofs.Math.Option.{none};
 ghost use Rattle.ident.specs.Words.{hash_num, key_num};
 ghost use Rattle.machine.specs.Limits.{max_announcements};
-ghost use Rattle.regions.specs.Rows.{quad_number, key_number, with_deadline, with_bits};
+ghost use Rattle.regions.specs.Rows.{key_number, with_deadline, with_bits};
 ghost use Rattle.machine.specs.State.{owner_is, owned_until, unowned, with_candidates, ready_at};
 ghost use Rattle.machine.specs.Table.{at, change, has, held_at, is_candidate, one};
 ghost use Rattle.machine.specs.Announce as machine;
@@ -16,7 +16,6 @@ ghost use Rattle.machine.specs.Fail as fail;
 ghost use Rattle.ident.specs.Number.{kind_number};
 ghost use Rattle.store.specs.Flat.{witness_bit};
 ghost use Rattle.store.specs.Shown.{limit_in, rows_in, Kept, Shown};
-ghost use Rattle.regions.specs.Keys.{Words, KeyWords};
 ghost use Rattle.requests.specs.Changes.{candidate_of, Spans, FoundAmong, MarkIn, RowFor, witness_as, RowAdopting, OwnedBare, FiguresOf, Makes, Tells};
 
 use std::ops::Bound;
@@ -42,24 +41,6 @@ pub struct Window {
 }
 
 // ---- keys and bits as rows have them
-
-pub fn hash_quad(h: ident::Hash) -> regions::Quad
-    ensures { Words h result }
-{
-    regions::Quad::from(h)
-}
-
-pub fn quad_hash(q: regions::Quad) -> ident::Hash
-    ensures { hash_num result ≡ quad_number q }
-{
-    ident::Hash::from(q)
-}
-
-pub fn key_words(k: ident::Key) -> regions::Key
-    ensures { KeyWords k result }
-{
-    regions::Key::from(k)
-}
 
 fn witness_bit(k: ident::ItemKind) -> u64
     ensures { (result ≡ witness_bit k) × (result ≤ 1) }
@@ -200,6 +181,7 @@ pub fn cut(s: &mut [u8], k: ident::Key, n: u64)
 
 // ---- a candidate that adopts what another brings
 
+// (`same` is a fact of two kinds, here and below: one bit of the row goes by it, and no step.)
 fn witness_as(same: bool, k: ident::ItemKind, bits: u64) -> u64
     ensures { (result ≡ witness_as same k bits) × (result ≤ 1) }
 {

@@ -15,7 +15,7 @@ fn key_of(m: Option<Named<ident::Kind>>) -> Option<ident::Key>
     ensures { maybe_key_num result ≡ key_in m }
 {
     let Named { kind, hash } = m?;
-    let hash = requests::quad_hash(hash);
+    let hash = ident::Hash::from(hash);
     Some(ident::Key { kind, hash })
 }
 

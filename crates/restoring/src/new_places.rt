@@ -13,7 +13,6 @@ use ident::HASH_BYTES;
 use listed_lines::line::Request;
 use listed_lines::parts::Package;
 use package_stages::{Stage, flat};
-use places::{AWAITING, ENQUEUED, FLAG};
 
 // Makes the hashes of a list of 32 bytes each the parents of the i-th place, which has none.
 fn push_parents(s: &mut [u8], i: usize, list: &[u8])
@@ -23,18 +22,8 @@ fn push_parents(s: &mut [u8], i: usize, list: &[u8])
     let n = lent_lists::hashes(list);
     for j in 0..n {
         let h = lent_lists::hash_in(list, j);
-        let q = requests::hash_quad(h);
+        let q = regions::Quad::from(h);
         flat::push_parent(s, i, j, q);
-    }
-}
-
-fn stage_word(stage: Stage) -> u64
-    ensures { result ≡ stage_word (Some stage) }
-{
-    match stage {
-        Stage::Flagged => FLAG,
-        Stage::Awaiting => AWAITING,
-        Stage::Enqueued => ENQUEUED,
     }
 }
 
@@ -57,7 +46,7 @@ fn append_place(
     }) }
 {
     let i = store::head::held_places(s);
-    store::package_places::open_place(s, i, hash, stage_word(stage));
+    store::package_places::open_place(s, i, hash, u64::from(stage));
     flat::push_wtxids(s, i, wtxids);
     flat::set_combined(s, i, combined);
     push_parents(s, i, parents);

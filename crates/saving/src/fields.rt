@@ -48,7 +48,7 @@ pub fn put_key(out: &mut [u8], at: usize, k: ident::Key) -> usize
     ensures { (result ≤ at + key_room) × Lays out.old out.new at (key_field short (key_num k)) result }
 {
     let e = put_kind(out, at, k.kind);
-    let q = requests::hash_quad(k.hash);
+    let q = regions::Quad::from(k.hash);
     put_hash(out, e, q)
 }
 
@@ -89,7 +89,7 @@ pub fn next_hash(out: &mut [u8], at: usize, h: ident::Hash) -> usize
     ensures { (result ≤ at + hash_room) × Lays out.old out.new at (44 ∷ hexadecimal (hash_num h)) result }
 {
     let from = put_text(out, at, b",");
-    let q = requests::hash_quad(h);
+    let q = regions::Quad::from(h);
     put_hash(out, from, q)
 }
 

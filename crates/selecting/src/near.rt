@@ -77,7 +77,7 @@ pub fn window_near(s: &[u8], kind: ident::Kind, h: ident::Hash, guess: usize) ->
     requires { Kept s.now }
     ensures { WindowAs s.now kind (hash_num h) result }
 {
-    let k = requests::key_words(ident::Key { kind, hash: h });
+    let k = regions::Key::from(ident::Key { kind, hash: h });
     let from = seek_near(s, Bound::Included(k), guess);
     let to = seek_near(s, Bound::Excluded(k), from);
     requests::Window { from, to }

@@ -30,7 +30,7 @@ fn marked(s: &[u8], k: ident::Key) -> bool
     requires { Kept s.now }
     ensures { Tells s.now (λ t. result ≡ (at (key_num k) t).fallback) }
 {
-    let w = requests::window_of(s, requests::key_words(k));
+    let w = requests::window_of(s, regions::Key::from(k));
     requests::mark_in(s, w.from, w.to)
 }
 

@@ -51,7 +51,7 @@ pub fn close_place(s: &mut [u8], i: usize)
     words::put(s, 5, (n - 1) as u64);
 }
 
-// Stores the i-th place's stage.
+// Stores the i-th place's stage, any word.
 pub fn set_stage(s: &mut [u8], i: usize, v: u64)
     requires { Shown s.old × (i < held_places_in s.old) }
     ensures { (d : Place) → Turns s.old s.new (λ f. with_places (set f.places i (with_stage v (get_or f.places i d))) f) }

@@ -13,7 +13,7 @@ pub loop-i-init : goal.loop-i-init
 loop-i-init c = let kept = c.requires.0 in
     let st = kept.state in
     let k = key_num c.args.k in
-    let key = c.key_words-key.ensures in
+    let key = c.from-key.ensures in
     let n = window-size k st.table (from_at st kept.sound k key.small key.number (c.window_of-w.ensures.from_is st kept.sound kept.writes))
     (to_at st kept.sound k key.small key.number (c.window_of-w.ensures.to_is st kept.sound kept.writes)) in (
       copied_none c.args.s.now c.window_of-w.result.from (c.window_of-w.result.to - c.window_of-w.result.from)
@@ -44,7 +44,7 @@ returns c = (
   c.loop-i.invariant.1,
   λ st s w.
       let k = key_num c.args.k in
-      let key = c.key_words-key.ensures in
+      let key = c.from-key.ensures in
       let from = from_at st s k key.small key.number (c.window_of-w.ensures.from_is st s w) in
       let n = window-size k st.table from (to_at st s k key.small key.number (c.window_of-w.ensures.to_is st s w)) in
       copied_all st s k c.loop-i.invariant.0 c.loop-i-test.false (flat_of st) refl w from n,

@@ -21,7 +21,7 @@ returns-then-has_key c = λ st s w.
     let n = c.rows-rows.ensures.field (flat_of st) w in
     let l : c.find_row-i.result < length (rows_of st.table) = omega (arith, c.if-i-rows.true) in
     row-says st s c.args.n.number
-    c.args.k c.key_words-key.ensures l
+    c.args.k c.from-key.ensures l
     (c.row_at-r.ensures (flat_of st) c.row_at-r.result w)
     ((c.find_row-i.ensures.first (flat_of st) w).found c.if-i-rows.true)
     (c.has_key.ensures c.if-has_key.true)

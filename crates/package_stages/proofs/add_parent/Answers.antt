@@ -34,7 +34,7 @@ returns-then-n-lt-MAX_PARENTS c = λ st s w o.
     let d = blank 0 0 in
     let e = sym p.held_is in
     let there = its-place st s h z.small p.bound e d in
-    let x : quad_number c.hash_quad-q.result ≡ n = ap quad_number c.hash_quad-q.ensures.words_are ∙ number_quad n in
+    let x : quad_number c.from-q.result ≡ n = ap quad_number c.from-q.ensures.words_are ∙ number_quad n in
     let count = c.parents-n.ensures.1 h z.small st s w
     (record { bound = p.bound; held_is = sym e }) in
     parent-added st s h z.small p.bound n e d

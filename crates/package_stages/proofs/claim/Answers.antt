@@ -51,7 +51,7 @@ set_stage-requires c =
     let x = listed-shown k d c.push_wtxids.ensures in
     let y = listed-inside k d c.push_wtxids.ensures in
     let i = c.in-Ok.i in
-    let g = with_combined (quad_number c.hash_quad-q.result) in
+    let g = with_combined (quad_number c.from-q.result) in
     let turn = c.set_combined.ensures d in
     (turned_shown x i g d turn, turned_inside x i g d turn y)
 
@@ -65,7 +65,7 @@ returns-then-x-eq-FLAG c = λ st s w o.
     let ps = places_of st.table in
     let small = c.in-Ok.ensures.small in
     let p = c.in-Ok.ensures.is st s w in
-    let q = c.hash_quad-q.result in
+    let q = c.from-q.result in
     let z = sizes w in
     let l : i < length ps =
     omega (
@@ -75,7 +75,7 @@ returns-then-x-eq-FLAG c = λ st s w o.
     let there = its-place st s h small p.bound
     (sym p.held_is) d in
     let none_yet : (get_or ps i d).wtxids ≡ [] = ap (λ (x : Place). x.wtxids) there ∙ ap wtxids_of o.bare in
-    let x : quad_number q ≡ n = ap quad_number c.hash_quad-q.ensures.words_are ∙
+    let x : quad_number q ≡ n = ap quad_number c.from-q.ensures.words_are ∙
     number_quad n in
     let listed = c.push_wtxids.ensures (flat_of st) d none_yet w in
     let b = c.set_stage.ensures d _ (c.set_combined.ensures d _ listed) in

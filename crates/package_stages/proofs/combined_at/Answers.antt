@@ -11,4 +11,4 @@ place_at-p-requires c = (kept_shown c.requires.0, c.requires.1)
 pub returns : goal.returns
 returns c = λ h small st s w p.
     let d = blank 0 0 in
-    c.quad_hash.ensures ∙ head-combined _ (c.place_at-p.ensures (flat_of st) d w) ∙ ap (λ (x : Place). x.combined) (its-place st s h small p.bound (sym p.held_is) d)
+    c.from.ensures ∙ head-combined _ (c.place_at-p.ensures (flat_of st) d w) ∙ ap (λ (x : Place). x.combined) (its-place st s h small p.bound (sym p.held_is) d)

@@ -17,9 +17,9 @@ open_place-requires c = elim c.match-seek.branch [
 pub returns : goal.returns
 returns c = λ st s w o.
     let h = hash_num c.args.h in
-    let x : quad_number c.hash_quad-q.result ≡ h = ap quad_number c.hash_quad-q.ensures.words_are ∙ number_quad h in
+    let x : quad_number c.from-q.result ≡ h = ap quad_number c.from-q.ensures.words_are ∙ number_quad h in
     let made = rw x at (c.open_place.ensures (flat_of st) w) in
     elim c.match-seek.branch [
-      | in-Ok y ↦ opened st s h c.hash_quad-q.ensures.small (rw y.i-is (y.in-Ok.ensures.is st s w).bound) o made
-      | in-Ok-2 y ↦ opened st s h c.hash_quad-q.ensures.small (rw y.i-is (y.in-Ok.ensures.is st s w).bound) o made
+      | in-Ok y ↦ opened st s h c.from-q.ensures.small (rw y.i-is (y.in-Ok.ensures.is st s w).bound) o made
+      | in-Ok-2 y ↦ opened st s h c.from-q.ensures.small (rw y.i-is (y.in-Ok.ensures.is st s w).bound) o made
     ]

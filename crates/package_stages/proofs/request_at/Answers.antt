@@ -18,7 +18,7 @@ mark_in-mark-requires c = (kept_shown c.requires, c.window_of-w.ensures.most)
 pub returns : goal.returns
 returns c =
     let k = key_num c.args.k in
-    let key = c.key_words-key.ensures in
+    let key = c.from-key.ensures in
     let win = c.window_of-w.ensures in
     record {
       spans = subst (λ (x : ℕ). Spans c.args.s.now x c.window_of-w.result.from

@@ -19,25 +19,25 @@ place_at-p-requires c = (kept_shown c.requires, omega (arith, c.held_places.ensu
 
 pub returns-then-not-quad_less : goal.returns-then-not-quad_less
 returns-then-not-quad_less c =
-    let l = spot_within c.requires c.hash_quad-q.ensures c.seek_place-at.ensures (omega (arith, c.held_places.ensures.word, c.if-at-held_places.true)) c.place_at-p.ensures c.quad_less.ensures in
+    let l = spot_within c.requires c.from-q.ensures c.seek_place-at.ensures (omega (arith, c.held_places.ensures.word, c.if-at-held_places.true)) c.place_at-p.ensures c.quad_less.ensures in
     rw c.if-not-quad_less.true at l
 
 pub returns-else-not-quad_less : goal.returns-else-not-quad_less
 returns-else-not-quad_less c =
-    let l = spot_within c.requires c.hash_quad-q.ensures c.seek_place-at.ensures (omega (arith, c.held_places.ensures.word, c.if-at-held_places.true)) c.place_at-p.ensures c.quad_less.ensures in
+    let l = spot_within c.requires c.from-q.ensures c.seek_place-at.ensures (omega (arith, c.held_places.ensures.word, c.if-at-held_places.true)) c.place_at-p.ensures c.quad_less.ensures in
     rw c.if-not-quad_less.false at l
 
 pub returns-else-at-held_places : goal.returns-else-at-held_places
 returns-else-at-held_places c = record {
-  small = c.hash_quad-q.ensures.small;
+  small = c.from-q.ensures.small;
   most = c.seek_place-at.ensures.most;
   inside = λ e. never e;
   is = λ st s w.
       let h = hash_num c.args.h in
       let z = sizes w in
-      let bd = sought_at st s h c.hash_quad-q.ensures.words_are w c.seek_place-at.ensures in
+      let bd = sought_at st s h c.from-q.ensures.words_are w c.seek_place-at.ensures in
       record {
         bound = bd;
-        held_is = sym (missing st s h c.hash_quad-q.ensures.small bd (blank 0 0) (λ l y. omega (arith, c.held_places.ensures.word, c.if-at-held_places.false)));
+        held_is = sym (missing st s h c.from-q.ensures.small bd (blank 0 0) (λ l y. omega (arith, c.held_places.ensures.word, c.if-at-held_places.false)));
       };
 }

@@ -18,4 +18,4 @@ returns c = λ h small st s w p m.
     let d = blank 0 0 in
     let e = ap (λ (x : Place). x.wtxids) (its-place st s h small p.bound (sym p.held_is) d) in
     let q = c.read_wtxid-q.ensures (flat_of st) d w (rw e m) in
-    c.quad_hash.ensures ∙ ap quad_number q ∙ number_quad _ ∙ ap (λ (x : List ℕ). get_or x c.args.j 0) e
+    c.from.ensures ∙ ap quad_number q ∙ number_quad _ ∙ ap (λ (x : List ℕ). get_or x c.args.j 0) e

@@ -4,4 +4,4 @@ use Rattle.regions.specs.Rows.{quad_number}
 use Rattle.apart.proofs.noting.parent_of.Goals as goal
 
 pub returns : goal.returns
-returns c = c.quad_hash.ensures ∙ ap quad_number c.read_parent.ensures.words_are
+returns c = c.from.ensures ∙ ap quad_number c.read_parent.ensures.words_are

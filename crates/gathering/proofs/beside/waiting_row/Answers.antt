@@ -13,7 +13,7 @@ mark_in-mark-requires c = (kept_shown c.requires, c.window_of-w.ensures.most)
 pub returns : goal.returns
 returns c = λ st s w o.
     let k = key_num c.args.k in
-    let key = c.key_words-key.ensures in
+    let key = c.from-key.ensures in
     let from = from_at st s k key.small key.number (c.window_of-w.ensures.from_is st s w) in
     let to = to_at st s k key.small key.number (c.window_of-w.ensures.to_is st s w) in
     let m = its-mark st s k c.new_row.result from to (c.mark_in-mark.ensures (flat_of st) c.new_row.result w) in

@@ -9,7 +9,7 @@ loop-i-init c = (omega arith, passed_none)
 pub loop-i-preserved : goal.loop-i-preserved
 loop-i-preserved c = (
   omega (arith, c.loop-i-test.true),
-  passed_more c.loop-i.invariant.1 c.read-x.ensures c.quad_hash-g.ensures
+  passed_more c.loop-i.invariant.1 c.read-x.ensures c.from-g.ensures
       c.same_hash.ensures c.if-same_hash.false,
 )
 

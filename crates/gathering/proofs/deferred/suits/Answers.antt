@@ -24,4 +24,4 @@ returns c = suited_in (not-false c.args.c.preferred c.if-not-c.false)
     c.crowded.ensures c.if-crowded.false
     (ne_eqb c.args.y.conn
     c.args.c.connection
-    c.if-y-c.false) c.quad_hash-v.ensures c.waits_at.ensures c.if-waits_at.false
+    c.if-y-c.false) c.from-v.ensures c.waits_at.ensures c.if-waits_at.false

@@ -12,4 +12,4 @@ returns c = suits_in (omega (arith, c.if-new-ge-SPACE.false))
     (not-false c.args.c.preferred
     c.if-not-c.false) c.barred.ensures
     c.if-barred.false c.crowded.ensures
-    c.if-crowded.false c.quad_hash-v.ensures c.waits_at.ensures c.if-waits_at.false
+    c.if-crowded.false c.from-v.ensures c.waits_at.ensures c.if-waits_at.false

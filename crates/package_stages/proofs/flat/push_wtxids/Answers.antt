@@ -31,7 +31,7 @@ loop-j-preserved c =
     let l : c.loop-j.j
     < length (hashes_in c.args.list.now) =
     omega (arith, inv.1, c.loop-j-test.true) in
-    let x = ap quad_number c.hash_quad-q.ensures.words_are ∙ number_quad _ ∙ c.hash_in-h.ensures in (
+    let x = ap quad_number c.from-q.ensures.words_are ∙ number_quad _ ∙ c.hash_in-h.ensures in (
       filled_more c.requires.0 inv.0 l x c.push_wtxid.auto.s
           c.push_wtxid.ensures,
       inv.1,

@@ -13,4 +13,4 @@ put_hash-requires c = omega (
 pub returns : goal.returns
 returns c = wrote-item c.args.i.kind
     c.requires c.put_kind-e.ensures
-    c.hash_quad.ensures c.put_hash.ensures
+    c.from.ensures c.put_hash.ensures

@@ -25,7 +25,7 @@ loop-i-preserved c =
     let p = c.put_owner-to in
     let d = c.put_decimal-to in
     telling_more (hashes_in c.args.hashes.now) c.args.answer.now v (omega (arith, t, n))
-    (quad_is c.hash_quad-h.ensures c.hash_in.ensures)
+    (quad_is c.from-h.ensures c.hash_in.ensures)
     (omega (arith, t, n, v.ends, decimal_end _ d.ensures, d.auto, c.requires.0, c.requires.1)) (omega (arith, p.auto)) p.ensures
 
 pub returns : goal.returns

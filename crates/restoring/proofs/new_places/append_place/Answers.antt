@@ -30,4 +30,4 @@ returns c =
     let a = place_opened _ e c.open_place.ensures in
     let w = last_wtxids e a _ refl c.push_wtxids.ensures in
     let d = last_combined e w _ c.set_combined.ensures in
-    rw c.stage_word.ensures at (last_parents e d _ refl c.push_parents.ensures)
+    rw c.from.ensures at (last_parents e d _ refl c.push_parents.ensures)

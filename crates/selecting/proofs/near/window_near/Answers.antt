@@ -13,4 +13,4 @@ pub invariant_of-result : goal.invariant_of-result
 invariant_of-result c = record { order = sought_order c.requires c.seek_near-from.ensures c.seek_near-to.ensures }
 
 pub returns : goal.returns
-returns c = window_by c.requires c.seek_near-from.ensures c.seek_near-to.ensures c.key_words-k.ensures _
+returns c = window_by c.requires c.seek_near-from.ensures c.seek_near-to.ensures c.from-k.ensures _

@@ -13,7 +13,7 @@ mark_in-requires c = (kept_shown c.requires, c.window_of-w.ensures.most)
 pub returns : goal.returns
 returns c = λ st s w.
     let k = key_num c.args.k in
-    let key = c.key_words.ensures in
+    let key = c.from.ensures in
     let win = c.window_of-w.ensures in
     let d = row_of (at k st.table) (entry_of no_entry).candidate in
     let from = from_at st s k key.small key.number (win.from_is st s w) in

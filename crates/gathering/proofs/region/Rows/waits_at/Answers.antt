@@ -9,12 +9,12 @@ pub returns-then-has_key : goal.returns-then-has_key
 returns-then-has_key c =
     let h = c.args.h in
     waits_first c.requires (hash_below h (hash-four h c.well_formed.1.0))
-    c.has_key.ensures (c.key_words-a.ensures.number ∙ ap place c.from.ensures) c.if-has_key.true
+    c.has_key.ensures (c.from-a.ensures.number ∙ ap place c.from.ensures) c.if-has_key.true
 
 pub returns-else-has_key : goal.returns-else-has_key
 returns-else-has_key c =
     let h = c.args.h in
     waits-second c.requires
     (hash_below h (hash-four h c.well_formed.1.0)) c.has_key.ensures
-    (c.key_words-a.ensures.number ∙ ap place c.from.ensures) c.if-has_key.false
-    c.has_key-else-has_key.ensures (c.key_words-b.ensures.number ∙ ap place c.from-2.ensures)
+    (c.from-a.ensures.number ∙ ap place c.from.ensures) c.if-has_key.false
+    c.has_key-else-has_key.ensures (c.from-b.ensures.number ∙ ap place c.from-2.ensures)
