@@ -13,7 +13,10 @@ ghost use Rattle.apart.specs.Waiting.{marks, Waits, LetIn, WaitsWith, NextIn};
 
 use crate::parents::Parents;
 use gathering::beside::Fare;
-use gathering::region::{ROOM, Rows};
+use gathering::region::ROOM;
+use regions::Row;
+use regions::listed::Records;
+use std::marker::PhantomData;
 
 // With fewer parents a pass over the rows costs more than it spares.
 const FEW: usize = 6;
@@ -78,9 +81,10 @@ impl Waiting {
         if m == 0 {
             return;
         }
-        let rows = Rows {
+        let rows = Records {
             bytes: &self.rows,
             count: m,
+            kind: PhantomData,
         };
         gathering::coming::come_in(s, p.connection.number, rows);
         mark_parents(s, p, j - m, j);

@@ -15,8 +15,10 @@ ghost use Rattle.requests.specs.Changes.{candidate_of};
 ghost use Rattle.gathering.specs.Aside.{space, BarredIn, FaresIn, RowIn, SetAside};
 
 use crate::region;
-use crate::region::Rows;
 use machine::limits::MAX_PEER_ANNOUNCEMENTS;
+use regions::Row;
+use regions::listed::Records;
+use std::marker::PhantomData;
 
 // As many rows can wait.
 pub const SPACE: usize = 512;
@@ -41,7 +43,7 @@ pub fn full(s: &[u8], m: usize) -> bool
 }
 
 // With those that wait the connection n has as many announcements as it may, or one at the hash of k, under either kind.
-pub fn barred(s: &[u8], new: Rows, k: ident::Key, n: u64) -> bool
+pub fn barred(s: &[u8], new: Records<Row>, k: ident::Key, n: u64) -> bool
     requires { Kept s.now × (new.count ≤ space) }
     ensures { BarredIn s.now (words new.entry.bytes.now) new.entry.count (key_num k) n result }
 {
@@ -53,11 +55,11 @@ pub fn barred(s: &[u8], new: Rows, k: ident::Key, n: u64) -> bool
     if requests::is_candidate(s, h, n) {
         return true;
     }
-    new.waits_at(h)
+    region::waits_at(new, h)
 }
 
 // How the announcement c at k fares beside those that wait. The tests that need no search come first.
-fn fares(s: &[u8], new: Rows, k: ident::Key, c: requests::Candidate) -> Fare
+fn fares(s: &[u8], new: Records<Row>, k: ident::Key, c: requests::Candidate) -> Fare
     requires { Kept s.now × (new.count ≤ space) }
     ensures { FaresIn s.now (words new.entry.bytes.now) new.entry.count (key_num k) (candidate_of c) result }
 {
@@ -99,9 +101,10 @@ fn set_aside_at(s: &[u8], new: &mut [u8], m: usize, k: ident::Key, c: requests::
     requires { Kept s.now × (8 * (row_size * space) ≤ length new.old) × (m ≤ space) }
     ensures { SetAside s.now (words new.old) (words new.new) m (some (key_num k)) (candidate_of c) result }
 {
-    let rows = Rows {
+    let rows = Records {
         bytes: new,
         count: m,
+        kind: PhantomData,
     };
     match fares(s, rows, k, c) {
         Fare::Waits => {

@@ -2,11 +2,12 @@
 ghost use Rattle.words.specs.Words.{words};
 ghost use Rattle.gathering.specs.Aside.{Gathers, ComeIn};
 
-use crate::region::Rows;
 use crate::{tallying, together};
+use regions::Row;
+use regions::listed::Records;
 
 // The rows `new` of the connection n come in.
-pub fn come_in(s: &mut [u8], n: u64, new: Rows)
+pub fn come_in(s: &mut [u8], n: u64, new: Records<Row>)
     requires { Gathers s.old n (words new.bytes.now) new.count }
     ensures { ComeIn s.old s.new n (words new.entry.bytes.now) new.entry.count }
 {

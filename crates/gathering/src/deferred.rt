@@ -13,9 +13,11 @@ ghost use Rattle.gathering.specs.Aside.{space};
 ghost use Rattle.gathering.specs.Deferring.{ListedAt, SuitedIn, Deferred};
 
 use crate::beside::{Fare, SPACE};
-use crate::region::Rows;
 use crate::{beside, region};
 use announcing::foremost::Victims;
+use regions::Row;
+use regions::listed::Records;
+use std::marker::PhantomData;
 
 // Whether one of the first n rows listed is at the hash h.
 fn listed_at(top: &Victims, n: usize, h: ident::Hash) -> bool
@@ -37,7 +39,7 @@ fn listed_at(top: &Victims, n: usize, h: ident::Hash) -> bool
 // it. At the hash of a victim that is to go the store says too much, and so do the counts of the connection if the victim is its own.
 fn suits(
     s: &[u8],
-    new: Rows,
+    new: Records<Row>,
     top: &Victims,
     k: ident::Key,
     c: requests::Candidate,
@@ -70,7 +72,7 @@ fn suits(
     }
     let q = y.hash;
     let v = ident::Hash::from(q);
-    if new.waits_at(v) {
+    if region::waits_at(new, v) {
         return Fare::Alone;
     }
     Fare::Waits
@@ -93,9 +95,10 @@ fn defer_at(
         return Fare::Alone;
     }
     let y = regions::read::<regions::Row>(&top.rows, d);
-    let rows = Rows {
+    let rows = Records {
         bytes: new,
         count: d,
+        kind: PhantomData,
     };
     match suits(s, rows, top, k, c, y) {
         Fare::Waits => {

@@ -11,13 +11,21 @@ ghost use Rattle.gathering.specs.Aside.{space};
 ghost use Rattle.gathering.specs.Exchanges.{Underway, SuitsIn, Exchanged};
 
 use crate::beside::{Fare, SPACE};
-use crate::region::Rows;
 use crate::{beside, region};
 use announcing::foremost::Victims;
+use regions::Row;
+use regions::listed::Records;
+use std::marker::PhantomData;
 
 // How the announcement c at k fares beside those that wait, if the candidate of the row y goes for it. At the hash of
 // one that waits nobody goes: the mark of their request could be lost.
-fn suits(s: &[u8], new: Rows, k: ident::Key, c: requests::Candidate, y: regions::Row) -> Fare
+fn suits(
+    s: &[u8],
+    new: Records<Row>,
+    k: ident::Key,
+    c: requests::Candidate,
+    y: regions::Row,
+) -> Fare
     requires { Kept s.now × (new.count ≤ space) }
     ensures { SuitsIn s.now (words new.entry.bytes.now) new.entry.count (key_num k) (candidate_of c) y result }
 {
@@ -36,7 +44,7 @@ fn suits(s: &[u8], new: Rows, k: ident::Key, c: requests::Candidate, y: regions:
     }
     let q = y.hash;
     let v = ident::Hash::from(q);
-    if new.waits_at(v) {
+    if region::waits_at(new, v) {
         return Fare::Alone;
     }
     Fare::Waits
@@ -60,9 +68,10 @@ fn exchange_at(
         return Fare::Alone;
     }
     let y = regions::read::<regions::Row>(&top.rows, p);
-    let rows = Rows {
+    let rows = Records {
         bytes: new,
         count: d,
+        kind: PhantomData,
     };
     match suits(s, rows, k, c, y) {
         Fare::Waits => {

@@ -1,6 +1,6 @@
 // Candidates of one connection that wait beside the store, to come in together: rows move once, however many come in.
 //
-// What only reads those that wait has them as one value (`Rows`). Where their region is written it is a slice beside its count (`new` and m or d):
+// What only reads those that wait has them as one value (`Records`). Where their region is written it is a slice beside its count (`new` and m or d):
 // a longer one will do too, which an array would not allow, and a struct over `&mut [u8]` would need a clause in each contract that the
 // reference stays. A clause that names two values, as that there is room in the store for the rows, stays a clause.
 #![tactic(auto)]

@@ -5,6 +5,8 @@ ghost use Rattle.words.specs.Words.{words};
 ghost use Rattle.regions.specs.Rows.{row_size, key_number};
 ghost use Rattle.gathering.specs.Aside.{space, Empty, KeyIn, PutIn, WaitsAt};
 
+use regions::Row;
+use regions::listed::Records;
 use std::ops::Bound;
 
 // Words of the region.
@@ -12,14 +14,6 @@ const WORDS: usize = 4_608;
 
 // The same in bytes.
 pub const ROOM: usize = 36_864;
-
-// So many rows, at the front of lent bytes.
-#[derive(Clone, Copy)]
-pub struct Rows<'a> {
-    pub bytes: &'a [u8],
-    pub count: usize,
-    ghost room: { 8 * (row_size * count) ≤ length bytes.now },
-}
 
 // Makes the region empty.
 pub fn clear(new: &mut [u8])
@@ -29,25 +23,23 @@ pub fn clear(new: &mut [u8])
     words::clear(new, 0, WORDS);
 }
 
-impl<'a> Rows<'a> {
-    // Whether one of them has the key k.
-    fn has_key(self, k: regions::Key) -> bool
-        ensures { KeyIn (words self.entry.bytes.now) self.entry.count (key_number k) result }
-    {
-        let from = regions::seek_row(self.bytes, self.count, Bound::Included(k));
-        let to = regions::seek_row(self.bytes, self.count, Bound::Excluded(k));
-        from < to
-    }
+// Whether one of the rows has the key k.
+fn has_key(rows: Records<Row>, k: regions::Key) -> bool
+    ensures { KeyIn (words rows.entry.bytes.now) rows.entry.count (key_number k) result }
+{
+    let from = regions::seek_row(rows.bytes, rows.count, Bound::Included(k));
+    let to = regions::seek_row(rows.bytes, rows.count, Bound::Excluded(k));
+    from < to
+}
 
-    // Whether one of them is at the hash h, under either kind.
-    pub fn waits_at(self, h: ident::Hash) -> bool
-        requires { self.count ≤ space }
-        ensures { WaitsAt (words self.entry.bytes.now) self.entry.count (hash_num h) result }
-    {
-        let a = regions::Key::from(ident::Key::from(ident::Txid(h)));
-        let b = regions::Key::from(ident::Key::from(ident::Wtxid(h)));
-        self.has_key(a) || self.has_key(b)
-    }
+// Whether one of the rows is at the hash h, under either kind.
+pub fn waits_at(rows: Records<Row>, h: ident::Hash) -> bool
+    requires { rows.count ≤ space }
+    ensures { WaitsAt (words rows.entry.bytes.now) rows.entry.count (hash_num h) result }
+{
+    let a = regions::Key::from(ident::Key::from(ident::Txid(h)));
+    let b = regions::Key::from(ident::Key::from(ident::Wtxid(h)));
+    has_key(rows, a) || has_key(rows, b)
 }
 
 // Puts the row y in its place among the m that wait.

@@ -10,7 +10,7 @@ use std::marker::PhantomData;
 pub struct Records<'a, R: WholeRecord> {
     pub bytes: &'a [u8],
     pub count: usize,
-    kind: PhantomData<R>,
+    pub kind: PhantomData<R>,
     ghost inside: { 8 * (R.WORDS * count) ≤ length bytes.now },
 }
 

@@ -17,10 +17,13 @@ ghost use Rattle.wrapping.specs.Swaps.{Whole, Swaps, Went, Settled};
 
 use announcing::foremost::Victims;
 use gathering::beside::Fare;
-use gathering::region::{ROOM, Rows};
+use gathering::region::ROOM;
 use ident::connection::Connection;
 use machine::clock::Clock;
 use machine::limits::{MAX_PEER_IN_FLIGHT, SOURCE_DELAY};
+use regions::Row;
+use regions::listed::Records;
+use std::marker::PhantomData;
 
 // What holds of every item of a batch. source: a wtxid source exists; late: the connection owned as many requests as it may before. (Each of
 // the bools is a ground for a delay, and none says whether another field holds.)
@@ -156,9 +159,10 @@ fn announce_some(s: &mut [u8], b: Batch, first: usize) -> usize
     let mut new = region();
     gathering::region::clear(&mut new);
     let p = collect(s, &mut new, b, first);
-    let rows = Rows {
+    let rows = Records {
         bytes: &new,
         count: p.waiting,
+        kind: PhantomData,
     };
     gathering::coming::come_in(s, b.terms.connection.number, rows);
     let next = p.next;
@@ -248,9 +252,10 @@ fn settle(s: &mut [u8], top: &Victims, b: Batch, first: usize) -> Part
     gathering::region::clear(&mut new);
     let p = swap(s, &mut new, top, b, first);
     gathering::going::go(s, top, p.waiting);
-    let rows = Rows {
+    let rows = Records {
         bytes: &new,
         count: p.waiting,
+        kind: PhantomData,
     };
     gathering::coming::come_in(s, b.terms.connection.number, rows);
     p

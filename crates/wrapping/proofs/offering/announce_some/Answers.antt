@@ -11,7 +11,7 @@ pub come_in-requires : goal.come_in-requires
 come_in-requires c = collects_gathers c.collect-p.ensures c.requires.0
 
 pub invariant_of-rows : goal.invariant_of-rows
-invariant_of-rows c = record { room = omega (arith, c.collect-p.ensures.few, c.collect-p.auto.new, c.clear.auto.new) }
+invariant_of-rows c = record { inside = omega (arith, c.collect-p.ensures.few, c.collect-p.auto.new, c.clear.auto.new) }
 
 pub announce_one-requires-then-next-count : goal.announce_one-requires-then-next-count
 announce_one-requires-then-next-count c =

@@ -24,7 +24,7 @@ pub come_in-requires : goal.come_in-requires
 come_in-requires c = swaps_gathers c.swap-p.ensures c.go.ensures c.requires.0
 
 pub invariant_of-rows : goal.invariant_of-rows
-invariant_of-rows c = record { room = omega (arith, c.swap-p.ensures.few, c.swap-p.auto.new, c.clear.auto.new) }
+invariant_of-rows c = record { inside = omega (arith, c.swap-p.ensures.few, c.swap-p.auto.new, c.clear.auto.new) }
 
 pub returns : goal.returns
 returns c = swaps_settled c.swap-p.ensures

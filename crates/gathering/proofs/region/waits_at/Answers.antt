@@ -1,9 +1,9 @@
--- `gathering::region::Rows::waits_at` meets its contract.
+-- `gathering::region::waits_at` meets its contract.
 use mathlib.Core.Path.{ap, ◌∙◌}
 use Rattle.ident.specs.Number.{place}
 use Rattle.ident.proofs.Words.{hash-four, hash_below}
 use Rattle.gathering.proofs.Looking.{waits_first, waits-second}
-use Rattle.gathering.proofs.region.Rows.waits_at.Goals as goal
+use Rattle.gathering.proofs.region.waits_at.Goals as goal
 
 pub returns-then-has_key : goal.returns-then-has_key
 returns-then-has_key c =
