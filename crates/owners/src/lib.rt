@@ -113,7 +113,13 @@ fn put_owner(u: &mut [u8], n: usize, v: Option<Owner>)
 {
     let w = n * OWNER;
     match v {
-        Some(o) => claiming::entries::put_three(u, w, u64::from(o.kind) + 1, o.connection, o.deadline),
+        Some(o) => claiming::entries::put_three(
+            u,
+            w,
+            u64::from(o.kind) + 1,
+            o.connection,
+            o.deadline,
+        ),
         None => claiming::entries::put_three(u, w, 0, 0, 0),
     }
 }
