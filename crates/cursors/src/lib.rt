@@ -10,7 +10,7 @@ ghost use Rattle.machine.specs.Wrapper.{due_at, next_poll_after};
 ghost use Rattle.store.specs.Image.{head_size, poll_words, cursor_words};
 ghost use Rattle.store.specs.Read.{poll_is};
 ghost use Rattle.cursors.specs.Numbers.{time_num, numbers_of, with_known, gate_at, Loads, Saves, Gated, KnownMoved};
-ghost use Rattle.cursors.specs.InWords.{poll_at, TagSays, cursor_in, ReadyMoved};
+ghost use Rattle.cursors.specs.InWords.{poll_at, known_at, ready_at, TagSays, cursor_in, written, ReadyMoved};
 
 use machine::clock::Clock;
 use machine::limits::REQUEST_POLL_INTERVAL;
@@ -101,7 +101,9 @@ pub fn set_cursor(s: &mut [u8], a: usize, c: Option<ident::Key>)
 
 pub fn load(s: &[u8]) -> Cursors
     requires { 8 * head_size ≤ length s.now }
-    ensures { Loads s.now result }
+    ensures state { Loads s.now result }
+    ensures in_words { (time_num result.next ≡ poll_is (get_or (words s.now) poll_at 0) (get_or (words s.now) (poll_at + 1) 0))
+        × (maybe_key_num result.known ≡ cursor_in (words s.now) known_at) × (maybe_key_num result.ready ≡ cursor_in (words s.now) ready_at) }
 {
     Cursors {
         next: next_poll(s),
@@ -112,7 +114,8 @@ pub fn load(s: &[u8]) -> Cursors
 
 pub fn save(s: &mut [u8], c: Cursors)
     requires { 8 * head_size ≤ length s.old }
-    ensures { Saves s.old s.new c }
+    ensures state { Saves s.old s.new c }
+    ensures in_words { words s.new ≡ written c (words s.old) }
 {
     set_next_poll(s, c.next);
     set_cursor(s, KNOWN, c.known);

@@ -3,4 +3,4 @@ use Rattle.cursors.proofs.gate.Goals as goal
 
 pub returns : goal.returns
 returns c s w =
-    gated c.load-c.result c.poll_gate-due.new.c c.load-c.ensures c.save.ensures s w c.args.clock.time c.poll_gate-due.result c.poll_gate-due.ensures.0 c.poll_gate-due.ensures.1
+    gated c.load-c.result c.poll_gate-due.new.c c.load-c.ensures.state c.save.ensures.state s w c.args.clock.time c.poll_gate-due.result c.poll_gate-due.ensures.0 c.poll_gate-due.ensures.1

@@ -3,4 +3,4 @@ use Rattle.cursors.proofs.InState.{known_saved}
 use Rattle.cursors.proofs.move_known.Goals as goal
 
 pub returns : goal.returns
-returns c s w = known_saved c.load-c.result _ c.load-c.ensures c.save.ensures s w (maybe_key_num c.args.last) c.set_known.ensures
+returns c s w = known_saved c.load-c.result _ c.load-c.ensures.state c.save.ensures.state s w (maybe_key_num c.args.last) c.set_known.ensures

@@ -10,4 +10,4 @@ unfolding need
 save-requires c = omega (arith, c.fill.auto.s, c.requires.2)
 
 pub returns : goal.returns
-returns c = headed c.args.h _ c.fill.ensures c.save.ensures refl c.key_of.ensures c.key_of-2.ensures
+returns c = headed c.args.h _ c.fill.ensures c.save.ensures.state refl c.key_of.ensures c.key_of-2.ensures
