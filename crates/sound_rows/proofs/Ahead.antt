@@ -54,7 +54,8 @@ module _ (p r : Row) where
         → Decides (is_ahead p.hash.w0 r.hash.w0 (eqb (mark_bit p) (mark_bit r))) (Follows p r)
     by_four e e₃ e₂ e₁ =
         let f : ltb p.hash.w0 r.hash.w0 ≡ ltb (key_number (key_of p)) (key_number (key_of r)) = by_hash (key_of p) (key_of r) (same_kind p.bits r.bits e) (by_w0 s t e₃ e₂ e₁) in
-        let g : ltb r.hash.w0 p.hash.w0 ≡ ltb (key_number (key_of r)) (key_number (key_of p)) = by_hash (key_of r) (key_of p) (same_kind r.bits p.bits (sym e)) (by_w0 t s (sym e₃) (sym e₂) (sym e₁)) in
+        let g : ltb r.hash.w0 p.hash.w0 ≡ ltb (key_number (key_of r)) (key_number (key_of p)) =
+        by_hash (key_of r) (key_of p) (same_kind r.bits p.bits (sym e)) (by_w0 t s (sym e₃) (sym e₂) (sym e₁)) in
         elim (test (eqb p.hash.w0 r.hash.w0)) [
           | inl q ↦ let d : p.hash.w0 ≡ r.hash.w0 = eqb-true p.hash.w0 r.hash.w0 q in
               rw (ahead_same p.hash.w0 r.hash.w0 (eqb (mark_bit p) (mark_bit r)) d)
@@ -67,21 +68,24 @@ module _ (p r : Row) where
     by_three b e e₃ e₂ k = elim (test (eqb p.hash.w1 r.hash.w1)) [
       | inl q ↦ rw (ahead_same _ _ b (eqb-true _ _ q)) (k (eqb-true _ _ q))
       | inr q ↦ let n = eqb-false _ _ q in
-          by_word p.hash.w1 r.hash.w1 b n (by_hash (key_of p) (key_of r) (same_kind p.bits r.bits e) (by_w1 s t e₃ e₂ n)) (by_hash (key_of r) (key_of p) (same_kind r.bits p.bits (sym e)) (by_w1 t s (sym e₃) (sym e₂) (λ z. n (sym z))))
+          by_word p.hash.w1 r.hash.w1 b n (by_hash (key_of p) (key_of r) (same_kind p.bits r.bits e) (by_w1 s t e₃ e₂ n))
+          (by_hash (key_of r) (key_of p) (same_kind r.bits p.bits (sym e)) (by_w1 t s (sym e₃) (sym e₂) (λ z. n (sym z))))
     ]
 
     by_two : (b : Bool) → p.bits % 2 ≡ r.bits % 2 → p.hash.w3 ≡ r.hash.w3 → (p.hash.w2 ≡ r.hash.w2 → Decides b (Follows p r)) → Decides (is_ahead p.hash.w2 r.hash.w2 b) (Follows p r)
     by_two b e e₃ k = elim (test (eqb p.hash.w2 r.hash.w2)) [
       | inl q ↦ rw (ahead_same _ _ b (eqb-true _ _ q)) (k (eqb-true _ _ q))
       | inr q ↦ let n = eqb-false _ _ q in
-          by_word p.hash.w2 r.hash.w2 b n (by_hash (key_of p) (key_of r) (same_kind p.bits r.bits e) (by_w2 s t e₃ n)) (by_hash (key_of r) (key_of p) (same_kind r.bits p.bits (sym e)) (by_w2 t s (sym e₃) (λ z. n (sym z))))
+          by_word p.hash.w2 r.hash.w2 b n (by_hash (key_of p) (key_of r) (same_kind p.bits r.bits e) (by_w2 s t e₃ n))
+          (by_hash (key_of r) (key_of p) (same_kind r.bits p.bits (sym e)) (by_w2 t s (sym e₃) (λ z. n (sym z))))
     ]
 
     by_one : (b : Bool) → p.bits % 2 ≡ r.bits % 2 → (p.hash.w3 ≡ r.hash.w3 → Decides b (Follows p r)) → Decides (is_ahead p.hash.w3 r.hash.w3 b) (Follows p r)
     by_one b e k = elim (test (eqb p.hash.w3 r.hash.w3)) [
       | inl q ↦ rw (ahead_same _ _ b (eqb-true _ _ q)) (k (eqb-true _ _ q))
       | inr q ↦ let n = eqb-false _ _ q in
-          by_word p.hash.w3 r.hash.w3 b n (by_hash (key_of p) (key_of r) (same_kind p.bits r.bits e) (by_w3 s t n)) (by_hash (key_of r) (key_of p) (same_kind r.bits p.bits (sym e)) (by_w3 t s (λ z. n (sym z))))
+          by_word p.hash.w3 r.hash.w3 b n (by_hash (key_of p) (key_of r) (same_kind p.bits r.bits e) (by_w3 s t n))
+          (by_hash (key_of r) (key_of p) (same_kind r.bits p.bits (sym e)) (by_w3 t s (λ z. n (sym z))))
     ]
 
     by_bits_lem : (b : Bool) → (p.bits % 2 ≡ r.bits % 2 → Decides b (Follows p r)) → Decides (is_ahead (p.bits % 2) (r.bits % 2) b) (Follows p r)
