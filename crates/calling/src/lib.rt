@@ -1,7 +1,7 @@
 // Calls that leave the kept lists, carried out on a store, and their replies as text (docs/EVENTS.md): every word but `open`, `plan`, `want`, `take`, `send` and `part`.
 //
-// Store, kept lists, line and answer are lent one by one: of a struct of them each function would have to say that every reference is still the same (tried: else its
-// caller knows nothing of the bytes), and the clauses on their lengths stay, since a caller may lend longer ones.
+// Store, line and answer are lent one by one: of a struct of them each function would have to say that every reference is still the same (tried: else its caller knows
+// nothing of the bytes). The clauses on lengths stay: `out` may be longer than the answer's room, and the line shorter than a line's room.
 #![tactic(auto)]
 
 pub mod departures;

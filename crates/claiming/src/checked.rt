@@ -1,4 +1,5 @@
-// The checked list of a claim (document 01, module 5): a lent list of records, each entry handed by value to the claim of one entry.
+// The checked list of a claim (document 01, module 5): a lent list of records, each entry handed by value to the claim of one entry. (Of entry structs: C and the
+// event program hand over bytes, which go by `entries::claim_bytes`.)
 ghost use Rattle.std.specs.Prelude.{map, ◌*◌, ◌≤◌, length};
 ghost use Rattle.machine.specs.Call.{entry_bytes};
 ghost use Rattle.store.specs.Shown.{Kept};

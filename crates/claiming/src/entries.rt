@@ -1,6 +1,6 @@
 // Entries in an answer buffer, 112 bytes each (docs/DECISIONS.md, 4), and the claim of one entry that writes it there.
 //
-// An entry's fields are words of lent bytes, laid out for the C interface: u or b is the buffer, and w a field's place in it or n the entry's, no count.
+// An entry's fields are words of lent bytes, laid out for the C interface: u or b is the buffer, w a field's place in it, n an entry's.
 // Each field goes through `words::put` and `words::get`, which are `to_le_bytes` and `from_le_bytes` over a part of the buffer.
 ghost use Rattle.std.specs.Prelude.{◌≡◌, [], ◌∷◌, ◌+◌, ◌*◌, ◌/◌, ◌%◌, ◌≤◌, length};
 ghost use Rattle.ident.specs.Number.{item_kind_of, kind_is, kind_number};

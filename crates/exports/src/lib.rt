@@ -1,7 +1,7 @@
 // The public calls for programs in C and Rust (bindings/c/tracker.h): `bindings/build` writes the archive.
 //
 // A call returns a status, 0 if it was carried out and else the number of document 01's table, and hands the numbers of its reply
-// out. Each contract is the one of the public call (crates/tracker), its reply said by these numbers (crates/crossing).
+// out. Each contract is the one of the public call (crates/public_*), its reply said by these numbers (crates/crossing).
 // The C interface wants a function of its own for each name, with C's types: kinds are numbers, flags bools, and what is handed out goes through one pointer each.
 // So functions of one shape stand side by side; crates/crossing has what they share.
 #![tactic(auto)]

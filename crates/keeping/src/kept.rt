@@ -69,7 +69,8 @@ pub fn keep_entries(
     }
 }
 
-// The reply of a plan as text. What it has selected becomes the list.
+// The reply of a plan as text. What it has selected becomes the list. (As `keep_entries`: each has its own reply, its own text of it, and its own reading of what is kept in
+// its contract, and they share `keep` and `refusal`.)
 pub fn keep_selection(
     list: &mut [u8],
     out: &mut [u8],

@@ -2,6 +2,8 @@
 //
 // One pass over the rows, from the last to the first. The rows of a key stand together: what they have come to is kept until the next key begins,
 // since a row further on may own the request.
+//
+// A row's bits are read as `regions::Row` says.
 #![tactic(auto)]
 
 ghost use Rattle.std.specs.Prelude.{ℕ, ◌≡◌, ◌+◌, ◌≤◌, ◌<◌, List, [], ◌∷◌};
@@ -28,7 +30,7 @@ pub struct Look {
     pub rest: Option<u64>,
 }
 
-// No row yet of the key at hand; rest: the next look at the keys behind it. (Where a key begins, and no conversion of `rest`.)
+// No row yet of the key at hand; rest: the next look at the keys behind it. (`due` and `free` are of the key at hand: here it begins.)
 fn before_rows(rest: Option<u64>) -> Look
     ensures { (clock : ℕ) (t : Table) → option_of rest ≡ next_look clock t → Looks clock none [] t result }
 {

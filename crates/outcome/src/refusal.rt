@@ -24,7 +24,7 @@ pub enum Refusal {
     WrongHashes,
 }
 
-// Its number in the table: its place there. (So it is a sum in the code, and no table in the data.)
+// Its number in the table: its place there. (By the discriminant: the causes stand in the table's order, whose numbers begin at 1.)
 impl From<Refusal> for u64 {
     ghost use Rattle.std.specs.Prelude.{◌≡◌};
     ghost use Rattle.outcome.specs.Refusals.{number_of};

@@ -2,6 +2,8 @@
 //
 // Rows ascend by key: first those of Txid keys, then those of Wtxid keys, and in each half by hash. Two indices go along the halves, from one hash of the list to the
 // next, so that every row up to the greatest hash is passed once, and behind it no more than the next one is looked at. A key is counted at its last row.
+//
+// A row's bits are read as `regions::Row` says.
 #![tactic(auto)]
 
 ghost use Rattle.std.specs.Prelude.{◌≡◌, true, ◌+◌, ◌*◌, ◌≤◌, length};
@@ -106,7 +108,7 @@ fn first_wtxid(s: &[u8]) -> usize
 
 // ---- the list
 
-// Stores v as the n-th owner of u. Its tag is the number of its kind and one more: 0 says that nobody owns the hash. (n is a place: how many there are is said by the hashes.)
+// Stores v as the n-th owner of u. Its tag is the number of its kind and one more: 0 says that nobody owns the hash. (n is the owner's place: the list of hashes says how many owners there are.)
 fn put_owner(u: &mut [u8], n: usize, v: Option<Owner>)
     requires { owner_bytes * n + owner_bytes ≤ length u.old }
     ensures { u.new ≡ splice u.old (owner_bytes * n) (bytes_of (owner_words v)) }

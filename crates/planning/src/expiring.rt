@@ -87,7 +87,8 @@ fn expire_each(s: &mut [u8], m: usize, first: &mut [u8], c: usize, clock: u64) -
 }
 
 // Every owner whose time is over fails, in key order, and its parents are announced for it. The c places of the store are set apart; the
-// parents kept are noted at their place. Answers how many places at most have notes.
+// parents kept are noted at their place. Answers how many places at most have notes. (The store, m, the first place and the count travel together as in crates/apart, and are
+// no struct for its reason: apart::slots.)
 pub fn expire(s: &mut [u8], m: usize, first: &mut [u8], c: usize, clock: u64) -> usize
     requires { Rested s.old first.old m c }
     ensures { ExpiresAll s.old s.new first.old first.new m c clock result }

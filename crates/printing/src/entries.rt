@@ -100,7 +100,8 @@ fn put_entry(out: &mut [u8], at: usize, answer: &[u8], i: usize) -> usize
     put_candidate(out, e, c)
 }
 
-// n entries from the first on, each behind a comma.
+// n entries from the first on, each behind a comma. (As `keys::put_behind`: one function for both would take what puts the i-th as a closure, and a law of its text, in place of
+// this loop.)
 fn put_behind(out: &mut [u8], at: usize, answer: &[u8], first: usize, n: usize) -> usize
     requires { (entry_bytes * (first + n) ≤ length answer.now) × (at + entry_room * n ≤ length out.old) }
     ensures { (result ≤ at + entry_room * n) × Wrote out.old out.new at (behind (entry_texts (entries_from answer.now first n))) result }

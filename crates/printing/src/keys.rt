@@ -58,7 +58,7 @@ pub fn listing(out: &mut [u8], answer: &[u8], a: Result<u64, Refusal>) -> usize
     }
 }
 
-// The first n keys, each behind a comma.
+// The first n keys, each behind a comma. (As `entries::put_behind`.)
 fn put_behind(out: &mut [u8], at: usize, answer: &[u8], n: usize) -> usize
     requires { (at + 66 * n ≤ length out.old) × (key_bytes * n ≤ length answer.now) }
     ensures { (result ≤ at + 66 * n) × Wrote out.old out.new at (behind (key_texts (keys_in n answer.now))) result }

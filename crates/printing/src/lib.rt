@@ -5,6 +5,9 @@
 // A position goes beside the bytes that are written, as in crates/lines. In a struct of both, each function would have to say besides that the reference is still the same
 // (tried: else its caller knows nothing of the bytes). How many records of an answer buffer a reply has is no length: the buffer is longer, and a slice of exactly those
 // would be counted again by a division.
+//
+// A refusal, or what a call tells: a `match` in eight functions (here, in crates/calling, crates/keeping and crates/answering), since each puts another thing and its contract has
+// another text; `numbers::refusal` is what they share.
 #![tactic(auto)]
 
 pub mod buffers;

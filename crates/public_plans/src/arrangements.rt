@@ -23,7 +23,7 @@ pub fn arrange(s: &[u8], witnesses: &[u8], taken: &[u8], answer: &mut [u8]) -> R
 
 // ---- one connection's requests
 
-// A part of a list of entries: so many, from the first on.
+// A part of a list of entries: so many, from the first on. (No `std::ops::Range`: the call in C hands out a first and a count.)
 #[derive(Clone, Copy)]
 pub struct Range {
     pub first: usize,

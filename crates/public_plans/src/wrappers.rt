@@ -8,7 +8,8 @@ ghost use Rattle.outcome.specs.Reply.{reply_of, listing_of};
 use super::on_sound;
 use outcome::{Refusal, refusals};
 
-// The connection announces the items, which are given in 40 bytes each, with the priorities beside them in 8; the shorter list decides. source: a wtxid source exists.
+// The connection announces the items, which are given in 40 bytes each, with the priorities beside them in 8; the shorter list decides. source: a wtxid
+// source exists. (Two bools, as in document 01's call and the C interface.)
 pub fn announce_transactions(
     s: &mut [u8],
     connection: u64,

@@ -4,7 +4,7 @@
 // store. What they leave of a sound store is sound (crates/outcome/proofs/Owned, `does-keeps-sound`), so that an owner never tests again.
 //
 // A call of document 01 is a function of its own, with the call's own arguments and the call in its contract, also where two have one shape (announce and
-// request_parent; failed and failed_package_info). What they share stands once: the tests, the need, the reply (crates/outcome).
+// request_parent; failed and failed_package_info). What all share stands once: the tests, the need, the reply (crates/outcome).
 ghost use Rattle.machine.specs.Call.{On, Sum};
 ghost use Rattle.store.specs.Image.{SoundStore};
 ghost use Rattle.outcome.specs.Outcome.{Leaves};

@@ -69,7 +69,7 @@ pub fn write_from(h: Head, lines: Lines, s: &mut [u8])
     tallying::tally_rows(s);
 }
 
-// The state that the text lists, into any bytes of its need.
+// The state that the text lists, into any bytes of its need: for a caller that has the text alone. (The public call has read the first line by then: it goes by `write_from`.)
 pub fn write(text: &[u8], s: &mut [u8])
     requires { SoundListing text.now (length s.old) }
     ensures { (st : State) → read_listing text.now ≡ some st → Writes s.new st }

@@ -2,6 +2,8 @@
 //
 // One walk over the rows: a request's line at its first row, then the lines of its candidates. Every field is measured, and written if it fits,
 // so that the walk gives the listing's length over any buffer, and the listing over one that is long enough. The store is only read.
+//
+// A row's bits are read as `regions::Row` says.
 #![tactic(auto)]
 
 ghost use Rattle.std.specs.Prelude.{◌≤◌};

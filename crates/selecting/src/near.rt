@@ -38,9 +38,8 @@ fn ahead(wide: usize, step: usize) -> usize
     if step < wide { step } else { wide / 2 }
 }
 
-// The first of n rows whose key does not stand before `start`, or n. By hand, since
-// it begins at a guess: from there on the steps double, then what is left is halved, so that a walk pays for the rows between two hashes and not for all of them, as
-// `regions::lower_bound` would.
+// The first of n rows whose key does not stand before `start`, or n. By hand, since it begins at a guess: from there on the steps
+// double, then what is left is halved, so that a walk pays for the rows between two hashes; `regions::lower_bound` would halve all of them.
 fn seek_in(s: &[u8], n: usize, start: Bound<regions::Key>, guess: usize) -> usize
     requires { 8 * (row_size * n) ≤ length s.now }
     ensures { Sought (recs row_size row_key n (words s.now)) n (start_number start) result }

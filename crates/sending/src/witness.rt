@@ -10,8 +10,8 @@ ghost use Rattle.requests.specs.Changes.{Tells};
 ghost use Rattle.claiming.specs.Claiming.{entry_of};
 ghost use Rattle.sending.specs.Turned.{is_transaction, Holds, Turned, PutTurned};
 
-// Whether a connection is a witness connection: `listed` is the answer for it, and no flag that says whether there is one. It is remembered from one entry to the
-// next, since those of a connection are sent together.
+// A connection, and whether it is a witness connection. Both are always known, and are remembered from one entry to the next, since those of a connection are sent
+// together.
 #[derive(Clone, Copy)]
 pub struct Known {
     pub connection: u64,

@@ -13,7 +13,7 @@ ghost use Rattle.wire.specs.Payload.{max_items, wire_bytes, compact_size, wire_o
 ghost use Rattle.wire.specs.Calls.{refusal_number, item_answer, items_answer, items_reply, bytes_reply, Reads, Writes};
 ghost use Rattle.wire.specs.Steps.{Begins, Holds, Counted};
 
-// Why a call is refused.
+// Why a call is refused. Of its own: `outcome` stands above the store's crates, of which a payload needs none.
 #[derive(Clone, Copy, PartialEq, Eq, Debug)]
 pub enum Refusal {
     AnswerTooShort,
@@ -102,8 +102,8 @@ fn read_item(p: &[u8], a: usize, list: &mut [u8], i: usize)
     ident::put_hash(list, w * 8 + 8, h);
 }
 
-// (Here and in `write_items`: n is the payload's own count. Both slices go on behind n items, and the contract speaks of what stays there.)
-// Stores the n items of the payload, which stand from index at on, as the first of the list.
+// Stores the n items of the payload, which stand from index at on, as the first of the list. (n is the payload's own count: the list goes on behind n items, and the contract
+// speaks of what stays there.)
 fn read_items(p: &[u8], at: usize, n: usize, list: &mut [u8])
     requires { (at + wire_bytes * n ≤ length p.now) × (item_bytes * n ≤ length list.old) }
     ensures { list.new ≡ written (items_answer (recs wire_bytes wire_item n (drop at p.now))) list.old }
@@ -187,7 +187,7 @@ fn put_count(s: &mut [u8], n: usize)
     s[2] = (n / 256 % 256) as u8;
 }
 
-// Stores the items of the list one behind the other, from index at on.
+// Stores the items of the list one behind the other, from index at on. (n is the list's count, which `write_payload` has tested.)
 fn write_items(items: &[u8], n: usize, s: &mut [u8], at: usize)
     requires { (n ≡ length (items_in items.now)) × (at + wire_bytes * n ≤ length s.old) }
     ensures { s.new ≡ splice s.old at (wires_of (items_in items.now)) }

@@ -9,7 +9,7 @@ ghost use Rattle.outcome.specs.Reply.{departure_of};
 use machine::limits::MAX_PARENTS;
 use outcome::{Departure, Refusal, refusals};
 
-// Announcements of a connection, and parents of a request.
+// The most announcements of a connection.
 const MAX_PEER_ANNOUNCEMENTS: usize = 5_000;
 
 // The bytes of min(5,000, L) + 100 × Q keys.

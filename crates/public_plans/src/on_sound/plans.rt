@@ -61,6 +61,7 @@ pub fn plan(s: &mut [u8], clock: u64, answer: &mut [u8]) -> Result<Selection, Re
     })
 }
 
+// As `plan`, over the keys given: the bodies differ in these alone. What a plan does stands once, in `planning::plan::plan` over an Option.
 pub fn plan_given(
     s: &mut [u8],
     clock: u64,
