@@ -25,14 +25,16 @@ const SLOTS: u64 = 4096;
 
 const SPREAD: u64 = 0x1E37_79B1;
 
-// Whether two hashes are equal. (The derived test: what it says of the numbers is a lemma on four words, told once here.)
+// Whether two hashes are equal. (The derived test, whose clause is of the four words: that the numbers are equal exactly if these are holds
+// of words within their range, and is told once here for three callers.)
 pub fn same_hash(a: regions::Quad, b: regions::Quad) -> bool
     ensures { Decides result (quad_number a ≡ quad_number b) }
 {
     a == b
 }
 
-// Whether h is among the hashes from .. to of the list that starts at the word a.
+// Whether h is among the hashes from .. to of the list that starts at the word a. (A loop: tried with `any` and a closure with a contract. The
+// check left open what its yes and what its no say of the hashes by their index.)
 fn has_hash(s: &[u8], a: usize, from: usize, to: usize, h: regions::Quad) -> bool
     requires { (from ≤ to) × (8 * (a + 4 * to) ≤ length s.now) }
     ensures { result ≡ elem (quad_number h) (hashes_in (words s.now) a from to) }
@@ -62,7 +64,8 @@ fn slot(h: regions::Quad) -> usize
 }
 
 // Whether the n hashes of the list that starts at the word a are distinct. The last comes first; a hash is compared with others only
-// if its slot has the mark already. Slots may have any content before: the mark should be new to them, else all are compared.
+// if its slot has the mark already. Slots may have any content before: the mark should be new to them, else all are compared. (A loop: each
+// turn changes the slots that the next one reads.)
 fn distinct(s: &[u8], a: usize, n: usize, slots: &mut [u16], mark: u16) -> bool
     requires { (8 * (a + 4 * n) ≤ length s.now) × (length slots.old ≡ slot_count) }
     ensures { Decides result (NoRepeat (hashes_in (words s.now) a 0 n)) × (length slots.new ≡ slot_count) }
@@ -146,7 +149,8 @@ fn place_fits(p: &[u8], rows: Records<Row>, slots: &mut [u16], mark: u16, i: usi
     is_owned(rows, regions::read_quad(p, 0), i)
 }
 
-// Whether the hash of the i-th place is above that of the place before it.
+// Whether the hash of the i-th place is above that of the place before it. (No order of a type: a place stays bytes, and the order of the
+// hashes is the derived one.)
 fn place_follows(s: &[u8], i: usize) -> bool
     requires { 8 * (place_size * (i + 1)) ≤ length s.now }
     ensures { Decides result (PlaceFollows (words s.now) i) }
@@ -159,7 +163,8 @@ fn place_follows(s: &[u8], i: usize) -> bool
     regions::quad_less(x, y)
 }
 
-// Whether the first q places write themselves out, are fit, and ascend by hash.
+// Whether the first q places write themselves out, are fit, and ascend by hash. (A loop: each turn changes the slots, and where the next walk
+// among the rows begins.)
 pub fn places_fit(s: &[u8], q: usize, rows: Records<Row>) -> bool
     requires { 8 * (place_size * q) ≤ length s.now }
     ensures { RowsSound (recs row_size read_row rows.entry.count (words rows.entry.bytes.now))

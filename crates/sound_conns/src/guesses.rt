@@ -154,7 +154,7 @@ fn fill_first(conns: Records<Conn>, lo: usize, guess: &mut [u16], mask: u64, way
     }
 }
 
-// Keeps where x's entry is in the second table, if it lost its slot in the first. 1 if it did, else 0.
+// Keeps where x's entry is in the second table, if it lost its slot in the first. 1 if it did, else 0: a number, since its caller adds it up.
 fn give_second(guess: &mut [u16], mask: u64, way: u64, x: u64, j: usize) -> usize
     requires { (mask < 2 ^ 32) × (mask + 1 + mask / 4 < length guess.old) × (j < many) }
     ensures { (result ≤ 1) × (length guess.new ≡ length guess.old) }

@@ -185,7 +185,8 @@ fn used_up(n: usize, lo: usize, t: &[u32]) -> bool
     t.iter().take(n.saturating_sub(lo)).all(|v| *v == 0)
 }
 
-// Whether each of the entries that t has a counter for has its rows' counts, and each connection inside has an entry.
+// Whether each of the entries that t has a counter for has its rows' counts, and each connection inside has an entry. (Slots and mask go by
+// themselves till they are filled: `Guesses` holds them from there on.)
 fn window_fits(
     rows: Records<Row>,
     conns: Records<Conn>,

@@ -15,15 +15,16 @@ fn row_fits(r: regions::Row) -> bool
     (r.conn != 0) & known & idle & (txid | bare)
 }
 
-// Whether u is less than v, or equal to it and what stands behind them is fit. (Of words, with `|` and `&`: the order that a hash derives
-// branches at each word, and which way cannot be foretold.)
+// Whether u is less than v, or equal to it and what stands behind them is fit. (Of words, with `|` and `&`, which compile to no branch: the
+// sound test's time in docs/BENCHMARKS.md, some 63 instructions for a row and its neighbour, is that of this form.)
 fn ahead(u: u64, v: u64, rest: bool) -> bool
     ensures { result ≡ is_ahead u v rest }
 {
     (u < v) | ((u == v) & rest)
 }
 
-// Whether r may stand right behind p.
+// Whether r may stand right behind p. (No order that a type could have: rows of one key follow each other both ways if their marks are
+// equal, and neither way if not.)
 fn follows(p: regions::Row, r: regions::Row) -> bool
     ensures { Decides result (Follows p r) }
 {

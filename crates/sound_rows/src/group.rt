@@ -43,8 +43,8 @@ fn least_hash(rows: Records<Row>, i: usize, m: usize, j: usize) -> Quad
     x
 }
 
-// The first of the rows whose hash is above h, or the part's end. (A loop here and below: tried with `find`, which left the clause itself
-// open. It speaks of rows by their index, and `find` of the items that calls of a range's `next` gave.)
+// The first of the rows whose hash is above h, or the part's end. (A loop: tried with `find`, which left the clause itself open. It speaks
+// of rows by their index, and `find` of the items that calls of a range's `next` gave.)
 pub fn run_end(part: Part, h: Quad) -> usize
     ensures { Run (words part.entry.rows.bytes.now) part.entry.from part.entry.to (quad_number h) result }
 {
@@ -56,7 +56,8 @@ pub fn run_end(part: Part, h: Quad) -> usize
     part.to
 }
 
-// Whether no connection of `mine` is in a later one of them, or in one of `others`.
+// Whether no connection of `mine` is in a later one of them, or in one of `others`. (A loop with two ways to a no: in `all` they would be
+// one test, and a closure with a contract of its own.)
 fn apart(mine: Part, others: Part) -> bool
     ensures { Decides result (Apart (rows_of others.entry) (rows_of mine.entry)) }
 {
@@ -72,7 +73,7 @@ fn apart(mine: Part, others: Part) -> bool
     true
 }
 
-// How many of the rows own their request.
+// How many of the rows own their request. (A plain sum of bits: for `filter` and `count` what a turn adds would be a closure with a contract.)
 pub fn owners(part: Part) -> u64
     ensures { (result ≡ count_rows owns (rows_of part.entry)) × (result ≤ part.entry.to) }
 {
@@ -85,7 +86,7 @@ pub fn owners(part: Part) -> u64
 }
 
 // Marks the slots of the rows' connections, the last first, and whether no slot had the mark already. If none had, the connections are
-// distinct, and not among those that were marked before.
+// distinct, and not among those that were marked before. (A loop: each turn changes the slots that the next one reads.)
 fn mark_conns(part: Part, slots: &mut [u64], mark: u64) -> bool
     requires { length slots.old ≡ conn_slots }
     ensures { Marking result (words part.entry.rows.bytes.now) part.entry.from part.entry.to mark slots.old slots.new × (length slots.new ≡ conn_slots) }
