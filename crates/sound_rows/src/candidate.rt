@@ -23,7 +23,7 @@ fn ahead(u: u64, v: u64, rest: bool) -> bool
     (u < v) | ((u == v) & rest)
 }
 
-// Whether r may stand right behind p. (No order that a type could have: rows of one key follow each other both ways if their marks are
+// Whether r may stand right behind p. (No derived order: rows of one key follow each other both ways if their marks are
 // equal, and neither way if not.)
 fn follows(p: regions::Row, r: regions::Row) -> bool
     ensures { Decides result (Follows p r) }
