@@ -1,4 +1,7 @@
 // What lines ask for.
+//
+// Functions of a form and a variant (`leave_call`, `plan_line`, ..) are alike by two lines. One for all would take the form, the variant and, for the contract, what
+// the definition makes of the values: three parameters for two lines, at each of its calls.
 ghost use Rattle.std.specs.Prelude.{◌≡◌, ◌+◌};
 ghost use Rattle.std.proofs.Math.Option.{some};
 ghost use Rattle.machine.specs.Fields.{rest, ending};

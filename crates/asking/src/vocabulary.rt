@@ -58,7 +58,8 @@ pub enum HashesWord {
     OwnersOf,
 }
 
-// The word w where the field is its text, and else the word that was found otherwise.
+// The word w where the field is its text, and else the word that was found otherwise. (Calls of it in a row, since the definition is such a row of tests: each call
+// proves one of its tests, the last one first.)
 fn named(f: &[u8], text: &[u8], w: Word, otherwise: Option<Word>) -> Option<Word>
     ensures { result ≡ if same_text f.now text.now then Some w else otherwise }
 {

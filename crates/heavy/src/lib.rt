@@ -1,6 +1,8 @@
 // Which numbers come more than so many times in a list, found in two passes over it with a few counters (document 02, request b: no connection with more than 5,000
 // announcements, none that owns more than 100 requests).
 //
+// Names and counts are two slices, none of pairs: the second pass counts anew over the names of the first, and `seek` searches either.
+//
 // A counter has a name and a count. The contracts are equations between lists of numbers; the law of the two passes is `heavy-decides` (proofs/Frequent): with k counters
 // they tell exactly whether one of at most (k + 1) * most + k numbers comes more than `most` times.
 #![tactic(auto)]

@@ -19,6 +19,7 @@ const KEYS: usize = 21_845;
 
 const STORED: usize = KEYS * KEY;
 
+// (As `items::item_buffer`, by chance of the sizes: a key and an item have 40 bytes each.)
 pub fn key_buffer() -> [u8; STORED]
     ensures { length result ≡ listed_room }
 {

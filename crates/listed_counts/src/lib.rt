@@ -1,7 +1,7 @@
 // How often connections come in a saved listing (document 02, request b): whether one has more than 5,000 announcements, or owns more than 100 requests.
 //
 // From the text alone, in two passes for each, with a few counters (crates/heavy): 19 of them tell of 100,000 candidates which come more than 5,000 times, 999
-// of as many owners which come more than 100 times.
+// of as many owners which come more than 100 times. Names and counts are two slices, since the second pass counts anew over the names of the first.
 #![tactic(auto)]
 
 ghost use Rattle.std.specs.Prelude.{◌≡◌, Bool, true, false, ◌<◌, ◌^◌, length};

@@ -15,7 +15,7 @@ use listed_lines::cursor::{Lines, Lists};
 use listed_lines::hash_lists::ROOM;
 use listed_lines::line::{Head, Line};
 
-// What a scan of the lines has met: no request yet, or the key of the last one.
+// What a scan of the lines has met: no request yet, or the key of the last one. The states are those of the definition (`Met` of specs/Placed) but for its bad one, None here.
 #[derive(Clone, Copy)]
 pub enum Met {
     Start,

@@ -12,7 +12,8 @@ pub struct Lists<'a> {
     ghost room: { (list_room ≤ length wtxids.now) × (list_room ≤ length parents.now) },
 }
 
-// The lines from an index on.
+// The lines from an index on. (A function that takes a `&mut Lines` promises that the text is the same afterwards: that is of two values, before the call and behind it,
+// and a ghost field speaks of one.)
 #[derive(Clone, Copy)]
 pub struct Lines<'a> {
     pub text: &'a [u8],

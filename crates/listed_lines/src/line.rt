@@ -43,7 +43,7 @@ pub struct Candidate {
     pub priority: u64,
 }
 
-// A line of any form.
+// A line of any form. `Not` is one of no form: no line at all is the None of `Lines::next`.
 #[derive(Clone, Copy)]
 pub enum Line {
     Not,
@@ -52,14 +52,14 @@ pub enum Line {
     Candidate(Candidate),
 }
 
-// A line, and the index behind its line feed.
+// A line, and the index behind its line feed. (No `Parsed`: that is a part of a line, and ends in front of the comma behind it.)
 #[derive(Clone, Copy)]
 pub struct LineAt {
     pub line: Line,
     pub end: usize,
 }
 
-// Each line, if it is of that form.
+// ---- a line as one of each form, if it is one. (Its two lists are lent apart: `package_at` and `list_at` take one each, and `Lists` is for walks over lines.)
 
 fn read_head(line: &[u8]) -> Option<Head>
     ensures { head_of short (fields line.now) ≡ head_line result }

@@ -8,7 +8,7 @@ use crate::hash_lists::list_at;
 use crate::pieces::{maybe_at, none_at};
 use reading::fields::{Parsed, bool_at, hash_at, number_at};
 
-// The connection that is asked, and until when.
+// The connection that is asked, and until when. (Its like in crates/package_stages is of a store; this crate reads texts and has no store below it.)
 #[derive(Clone, Copy)]
 pub struct Owner {
     pub connection: u64,
@@ -44,8 +44,8 @@ pub fn owner_at(line: &[u8], e: usize) -> Option<Parsed<Option<Owner>>>
     maybe_at(line, e, owner_there)
 }
 
-// The package behind the comma at index e, or `none`; its wtxids go into `wtxids`. (No `maybe_at`: that takes an `FnOnce`, whose `post` says nothing of what a call leaves in a
-// slice that the closure captures.)
+// The package behind the comma at index e, or `none`; its wtxids go into `wtxids`. (No `maybe_at`: what it takes is callable in any case, and its contract speaks
+// of the answer alone; here room for wtxids is asked for, and the promise is of what stands there then.)
 pub fn package_at(line: &[u8], e: usize, wtxids: &mut [u8]) -> Option<Parsed<Option<Package>>>
     requires { list_room ≤ length wtxids.old }
     ensures { Took (none_or (package_then short)) line.now (rest line.now (e + 1)) (package_at wtxids.new result) }

@@ -1,6 +1,6 @@
 // A hash under both kinds: its Txid request and its Wtxid request together. Two walks go through the listing, one among the Txid requests and one among the
 // Wtxid requests; keys ascend, so each request is met once by each. No walk is a `for`: an `Iterator` has no lists to lend to `Lines::next`, and both walks go on by
-// more than a line at a time.
+// more than a line at a time. `conns` is a slice, as `gather` takes it: of eight words or more.
 #![tactic(auto)]
 
 ghost use Rattle.std.specs.Prelude.{◌≡◌, ◌<◌, ◌≤◌, length};

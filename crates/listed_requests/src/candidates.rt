@@ -1,4 +1,6 @@
 // The candidates of a request: their connections, and whether each item gives the request's key.
+//
+// The connections go into any slice that holds eight or more (`most_gathered`): an array of eight would ask callers for exactly so many.
 ghost use Rattle.std.specs.Prelude.{◌≡◌, ◌≤◌, eqb, length};
 ghost use Rattle.ident.specs.Number.{kind_of};
 ghost use Rattle.regions.specs.Rows.{quad_number};

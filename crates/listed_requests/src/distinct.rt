@@ -22,7 +22,7 @@ pub fn all_distinct(list: &[u64]) -> bool
     true
 }
 
-// Whether the first n hashes of bytes are distinct.
+// Whether the first n hashes of bytes are distinct. (Bytes of n hashes alone would ask for exactly so many; more may stand there.)
 pub fn hashes_distinct(s: &[u8], n: usize) -> bool
     requires { hash_bytes * n ≤ length s.now }
     ensures { result ≡ no_repeat (hashes_of n s.now) }

@@ -1,5 +1,6 @@
 // Forms: the fields of a line in their order, a letter each. k: key, i: item, h: hash, m: combined hash, c: connection, n: now, r: ready,
-// q: priority, p: preferred, s: whether a wtxid source exists.
+// q: priority, p: preferred, s: whether a wtxid source exists. (Letters are bytes, and no enum: so a form is written as a byte string, as b"kcn", where an enum would need a list
+// of its values for each form.)
 ghost use Rattle.std.specs.Prelude.{◌≡◌};
 ghost use Rattle.regions.specs.Rows.{quad_number};
 ghost use Rattle.lines.specs.Values.{named_key, named_item};

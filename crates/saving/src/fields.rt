@@ -2,6 +2,8 @@
 //
 // Each function answers the index behind its text. The text stands from `at` on if it ends inside `out`; else `out` may have anything there.
 // So the same walk measures a listing, over an `out` of no use, and writes it.
+//
+// The index goes beside the bytes, as in crates/lines (src/write.rt) and for its reason. It may lie behind their end too, where a walk only measures.
 ghost use Rattle.std.specs.Prelude.{◌≡◌, ◌+◌, ◌≤◌, [], ◌∷◌, length};
 ghost use Rattle.ident.specs.Words.{hash_num, key_num};
 ghost use Rattle.regions.specs.Rows.{quad_number};
@@ -52,6 +54,7 @@ pub fn put_key(out: &mut [u8], at: usize, k: ident::Key) -> usize
     put_hash(out, e, q)
 }
 
+// A letter's text, so that it is measured too where it does not fit.
 fn put_kind(out: &mut [u8], at: usize, kind: ident::Kind) -> usize
     requires { at + 1 ≤ farthest }
     ensures { Lays out.old out.new at (kind_letter kind ∷ []) result }

@@ -70,7 +70,7 @@ fn next_package(s: &[u8], out: &mut [u8], at: usize, i: usize, stage: Stage) -> 
     next_bool(out, e, stage == Stage::Enqueued)
 }
 
-// Package and parents of the request at k, which has this stage.
+// Package and parents of the request at k, of which q says what the rows and the place say.
 fn next_place(
     s: &[u8],
     out: &mut [u8],
