@@ -28,7 +28,7 @@ fn passed(best: Option<regions::Row>, r: regions::Row) -> bool
     stays(r.bits) | best.is_some_and(|row| r.prio < row.prio)
 }
 
-// What a row is in the order of. (It has two keys, this one and the machine's, `key_of` below: a name tells them apart where `into` would not.)
+// What a row is in the order of. (`key_of` below is the same key as the machine has it. Both are public and stay; a `From` in `regions` would only stand beside them.)
 pub fn row_key(r: regions::Row) -> regions::Key
     ensures { result ≡ key_of r }
 {
@@ -82,7 +82,7 @@ fn greater(best: Option<regions::Row>, r: regions::Row) -> Option<regions::Row>
     Some(r)
 }
 
-// The greatest of what has been found and of the rows from .. to.
+// The greatest of what has been found and of the rows from .. to. (A range and no `Window`: the rows may be all, which are no key's.)
 fn greatest_in(s: &[u8], from: usize, to: usize, best: Option<regions::Row>) -> Option<regions::Row>
     requires { Shown s.now × (from ≤ to) × (to ≤ rows_in s.now) }
     ensures { (f : Flat) → Shows s.now f → found result ≡ greatest_over (found best) (part from to f.rows) }

@@ -1,4 +1,5 @@
-// announce_parents: parents requested with the fallback mark (document 01, "announce_parents").
+// announce_parents: parents requested with the fallback mark (document 01, "announce_parents"). Connection and clock are arguments of their own, as
+// document 01 gives them to each of these steps.
 ghost use Rattle.std.specs.Prelude.{◌*◌, ◌≤◌, length};
 ghost use Rattle.ident.specs.Words.{hash_num};
 ghost use Rattle.machine.specs.Limits.{max_parents};

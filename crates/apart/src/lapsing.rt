@@ -1,4 +1,5 @@
 // An owner whose time is over, where the places are set apart: it fails, its place dies, and its parents are announced and noted.
+// Store, m and first place go apart for the reason at the head of `slots`; connection and clock as document 01 gives them to each of these steps.
 ghost use Rattle.std.specs.Prelude.{◌≡◌, ◌+◌, ◌≤◌, ◌<◌, length, take};
 ghost use Rattle.ident.specs.Words.{key_num};
 ghost use Rattle.apart.specs.Apart.{Room, Parted};

@@ -13,7 +13,8 @@ pub fn is_due(r: regions::Row, clock: u64) -> bool
     (r.bits / 8 % 2 == 1) & (r.deadline <= clock)
 }
 
-// The i-th row: put behind the m that stay, unless its owner's time is over. Answers how many stay.
+// The i-th row: put behind the m that stay, unless its owner's time is over. Answers how many stay. (A step of a pass: no `keep::retain`, since a row
+// that goes is counted off in the same store, which a closure over its bytes cannot change.)
 fn drop_row(s: &mut [u8], m: usize, i: usize, clock: u64) -> usize
     requires { Shown s.old × (m ≤ i) × (i < rows_in s.old) }
     ensures { RowKept s.old s.new (is_due clock) m i result }

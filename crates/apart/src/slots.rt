@@ -1,6 +1,7 @@
 // The places that are set apart, by number: the first in an array, the others from the byte m of the store on. Which parents of a place were
 // kept is noted in it, in two words that are zero at rest. The store, m and the first place travel together and are no struct: it would hold two
 // `&mut` slices, one of which is lent in part (`s[0..m]`) between these calls, and each contract would need a clause that both references stay.
+// Each function asks whether i is 0: one that gave the region and the index would lend either slice, and say of a change which of the two stays.
 ghost use Rattle.std.specs.Prelude.{◌≡◌, ◌+◌, ◌*◌, ◌≤◌, ◌<◌, length, take, drop, [], ◌∷◌};
 ghost use Rattle.ident.specs.Number.{wtxid};
 ghost use Rattle.ident.specs.Words.{hash_num, key_num};

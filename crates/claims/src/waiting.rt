@@ -2,6 +2,9 @@
 //
 // The claims of the connection are noted before any fails: they are at most 100, since it owns no more requests, and one pass over the
 // rows finds them. Each hash that is given is then compared with theirs, whatever the number of places.
+//
+// While claims are noted, their keys and their sums are two slices: a struct over two `&mut` would need a clause in each contract that both references
+// stay. Connection and clock are arguments of their own, as document 01 gives them to each of these steps.
 ghost use Rattle.std.specs.Prelude.{◌≡◌, ◌+◌, ◌*◌, ◌≤◌, ◌<◌, true, [], ◌∷◌, length, get_or};
 ghost use Rattle.std.proofs.Math.Option.{none, some};
 ghost use Rattle.ident.specs.Number.{Key, wtxid};

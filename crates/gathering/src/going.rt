@@ -17,7 +17,8 @@ fn goes(v: regions::Row, r: regions::Row) -> bool
     !stays & !after
 }
 
-// The i-th row: put behind the m that stay, unless it goes. Answers how many stay.
+// The i-th row: put behind the m that stay, unless it goes. Answers how many stay. (A step of a pass: no `keep::retain`, since a row that goes is
+// counted off in the same store, which a closure over its bytes cannot change.)
 fn drop_row(s: &mut [u8], m: usize, i: usize, v: regions::Row) -> usize
     requires { Shown s.old × (m ≤ i) × (i < rows_in s.old) }
     ensures { RowKept s.old s.new (goes_by v) m i result }

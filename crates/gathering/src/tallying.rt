@@ -1,4 +1,4 @@
-// The tally of rows that come in together.
+// The tally of rows that come in together. (A function of the shape of those in `store::counting`: why it is one of its own is said there.)
 ghost use Rattle.std.specs.Prelude.{◌≤◌, ◌<◌};
 ghost use Rattle.machine.specs.Limits.{max_announcements};
 ghost use Rattle.store.specs.Shown.{limit_in, conns_in, Shown, Tallies};

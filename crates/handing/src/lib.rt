@@ -2,6 +2,7 @@
 // candidate that is left.
 //
 // Key, connection and clock are arguments of their own, as document 01 gives them to each of these steps: the caller has them apart, and no step keeps them.
+// The answer u is longer than its keys: how many stand in it, n, goes beside it.
 #![tactic(auto)]
 
 ghost use Rattle.std.specs.Prelude.{◌≡◌, ◌*◌, ◌≤◌, true, false, is_some, [], length};

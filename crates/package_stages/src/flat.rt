@@ -1,4 +1,5 @@
-// The package places of a store as records, beyond store::package_places: searched, their lists read and lengthened.
+// The package places of a store as records, beyond store::package_places: searched, their lists read and lengthened. (Wtxids and parents have a function
+// each, as in `places`: one for both would need a trait over the two lists, longer than the pairs.)
 ghost use Rattle.std.specs.Prelude.{◌+◌, ◌≤◌, ◌<◌, length, get_or, set};
 ghost use Rattle.lent_lists.specs.Lists.{hashes_in};
 ghost use Rattle.regions.specs.Rows.{quad_number};

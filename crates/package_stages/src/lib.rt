@@ -82,7 +82,7 @@ impl From<Stage> for u64 {
     }
 }
 
-// The stage that the word of a place stands for; 0 is none.
+// The stage that the word of a place stands for; 0 is none. (No TryFrom: the word 0, no stage, is no error.)
 fn stage_in(word: u64) -> Option<Stage>
     ensures { word ≤ 3 → stage_word result ≡ word }
 {

@@ -4,7 +4,7 @@
 // behind them up to its capacity, so that a list of records has one image. Contracts say what happens to any words, and what happens
 // to a region that holds a list of records: an insertion in the words is an insertion in the list. A `requires` says only that the
 // records in question lie within the slice. How many records a slice holds stands beside it: its length says only how many it can, and
-// the number is a word of the store's header.
+// the number is a word of the store's header. A scan goes by the index, of which its contract speaks.
 #![tactic(auto)]
 
 ghost use Rattle.std.specs.Prelude.{◌≡◌, ℕ, ◌+◌, ◌*◌, ◌≤◌, ◌<◌, List, length, get_or, take, drop, ltb};
@@ -335,14 +335,14 @@ impl WholeRecord for Conn {
 
 // ---- searches
 
-// Whether the hash a is the smaller number.
+// Whether the hash a is the smaller number: the derived order, which by this clause is that of the numbers.
 pub fn quad_less(a: Quad, b: Quad) -> bool
     ensures { result ≡ ltb (quad_number a) (quad_number b) }
 {
     a < b
 }
 
-// Whether the key a comes before b.
+// Whether the key a comes before b: the derived order, which by this clause is that of the numbers.
 pub fn key_less(a: Key, b: Key) -> bool
     ensures { result ≡ ltb (key_number a) (key_number b) }
 {

@@ -14,6 +14,7 @@ pub struct Records<'a, R: WholeRecord> {
     ghost inside: { 8 * (R.WORDS * count) ≤ length bytes.now },
 }
 
+// By hand: the check refuses to derive Clone and Copy for a generic struct with a ghost field.
 impl<'a, R: WholeRecord> Clone for Records<'a, R> {
     ghost is_clone = { λ x y. y ≡ x };
 

@@ -1,4 +1,5 @@
-// The tally: a connection's entry follows its rows.
+// The tally: a connection's entry follows its rows. (These, `gathering::tallying` and `tearing::idle` look an entry up in the same way and differ in
+// what becomes of it, and where there is none: one function for them would take both as closures with contracts, longer than these.)
 ghost use Rattle.std.specs.Prelude.{◌≡◌, ℕ, ◌≤◌, ◌<◌, length, get_or};
 ghost use Rattle.regions.specs.Order.{Sorted};
 ghost use Rattle.store.specs.Flat.{Flat, bump};

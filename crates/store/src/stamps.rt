@@ -1,4 +1,5 @@
-// Rows from .. to, each changed in the same way.
+// Rows from .. to, each changed in the same way. (Two functions: one with the change as a closure would say in its contract what that makes of a row,
+// which is longer than the loop.)
 ghost use Rattle.std.specs.Prelude.{◌≡◌, ◌+◌, ◌%◌, ◌≤◌, ◌<◌};
 ghost use Rattle.regions.specs.Rows.{with_ready, with_bits};
 ghost use Rattle.store.specs.Shown.{rows_in, Shown, with_rows, Turns};

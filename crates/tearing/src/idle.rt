@@ -1,4 +1,5 @@
 // Connections that lose rows in one pass: entries of the tally stay until the pass is over, and those of no row are taken out together.
+// (`count_off` has the shape of those in `store::counting`: why it is one of its own is said there. The bit of owning is a number, which is taken off.)
 ghost use Rattle.std.specs.Prelude.{◌≡◌, ◌*◌, length};
 ghost use Rattle.words.specs.Words.{words};
 ghost use Rattle.regions.specs.declared.Conn.{Conn};

@@ -73,7 +73,8 @@ fn tear_rows(s: &mut [u8], clock: u64)
 
 // ---- places
 
-// Marks the i-th place, if it is a package's; answers how many these are then.
+// Marks the i-th place, if it is a package's; answers how many these are then. (By the word of its stage, any in a shown store: a package's are those
+// from AWAITING on.)
 fn tear_place(s: &mut [u8], i: usize, c: usize) -> usize
     requires { Shown s.old × (i < held_places_in s.old) × (c ≤ i) }
     ensures { PlaceTorn s.old s.new i c result }

@@ -54,7 +54,7 @@ pub fn shift_up(s: &mut [u8], m: usize, d: usize)
     }
 }
 
-// Moves the words d .. m + d down by d, the first first.
+// Moves the words d .. m + d down by d, the first first. (Why not `copy_within`: see `shift_up`.)
 pub fn shift_down(s: &mut [u8], m: usize, d: usize)
     requires { 8 * (m + d) ≤ length s.old }
     ensures { words s.new ≡ down d (words s.old) 0 m }
