@@ -49,6 +49,7 @@ pub struct Key {
 }
 
 // A candidate of a request. The deadline is 0 unless it owns the request; bits, packed as the bytes of a store are: 1 Wtxid kind, 2 item is v, 4 preferred, 8 owns, 16 mark.
+// (Readers divide, as the specs do.)
 #[derive(Clone, Copy)]
 pub struct Row {
     pub hash: Quad,
