@@ -1,35 +1,29 @@
 -- forget_known: what guards a request, and its parents announced for its owner.
-use Prim.Native.Nat.{ℕ, ◌*◌, ◌≤◌, ◌<◌}
-use mathlib.Core.Path.{◌≡◌, refl, sym, ap, subst, ◌∙◌}
+use Prim.Native.Nat.{ℕ, ◌<◌}
+use mathlib.Core.Path.{◌≡◌, refl, sym, ap, ◌∙◌}
 use mathlib.Core.Bool.{Bool, true, false, ◌||◌}
 use mathlib.Core.List.{List}
 use mathlib.Core.Option.{Option, none, some}
-use native.Mathlib.Omega.{arith}
 use Rattle.std.specs.Option.{option_eq, is_some as is_some_of}
-use Rattle.std.specs.Prelude.{Some, None}
+use Rattle.std.specs.Prelude.{Some}
 use Rattle.ident.specs.Number.{Key}
-use Rattle.machine.specs.Limits.{word, max_parents}
-use Rattle.machine.specs.State.{Owner, Package, Request, Table, State, on_table, limits_of, is_some}
+use Rattle.machine.specs.Limits.{word}
+use Rattle.machine.specs.State.{Package, Request, State, on_table, limits_of, is_some}
 use Rattle.machine.specs.Table.{at}
-use Rattle.machine.specs.Call.{key_bytes}
-use Rattle.machine.specs.Fail.{announce_parents, parents_for, forget}
+use Rattle.machine.specs.Fail.{forget}
 use Rattle.machine.specs.Leave.{alive, guarded, owner_parents, forget_known}
 use Rattle.machine.specs.Sound.{Sound}
 use Rattle.machine.proofs.Table.{lawful_at}
-use Rattle.machine.proofs.Fail.{owner-peer}
 use Rattle.machine.proofs.Kept.{sound-table}
 use Rattle.machine.proofs.Leave.{bounded-owner_parents as bounded-handed}
-use Rattle.store.specs.Image.{Writes}
 use Rattle.store.specs.Shown.{Kept}
 use Rattle.requests.specs.Changes.{Makes, Tells}
 use Rattle.package_stages.specs.declared.Request.{Request as Read}
 use Rattle.package_stages.specs.contracts.StagePartialEq.TheImpl.{eq-value}
-use Rattle.package_stages.specs.declared.Owner.{Owner as OwnerRead}
 use Rattle.package_stages.specs.declared.Stage.TheVariants.{Enqueued}
 use Rattle.package_stages.specs.Changes.{owner_as, RequestOf}
 use Rattle.package_stages.proofs.Read.{staged}
-use Rattle.announcing.specs.Answers.{KeysListed}
-use Rattle.failing.proofs.Releasing.{owner-some, owner-none, owner-named, enqueued-is}
+use Rattle.failing.proofs.Releasing.{enqueued-is}
 use Rattle.claims.specs.Changes.{Becomes}
 
 -- ---- what guards a request
@@ -55,24 +49,6 @@ module _ {q : Request} {r : Read} (x : RequestOf q r) (v : ℕ) where
     guarded_not h = rw (sym (enqueued-is x n), placed_either q.info q.«package», sym (staged x) ∙ h)
 
 -- ---- the parents of a request, announced for its owner
-
-pub room-keys : (l u : ℕ) → l ≤ max_parents → key_bytes * max_parents ≤ u → key_bytes * l ≤ u
-room-keys l u few room = omega arith
-
-module _ {b : List ℕ} (k : Key) (v : ℕ) {r : Read} (x : Tells b (λ t. RequestOf (at k t) r)) where
-  pub hand_none : r.owner ≡ None → Becomes b b (λ m t. owner_parents m v (at k t).owner (at k t) t)
-  hand_none z st s w =
-      subst (λ (o : Option Owner). Writes b (on_table (owner_parents (limits_of st) v o (at k st.table) st.table) st)) (sym (owner-none (x st s w) z)) w
-
-  pub hand_some : {o : OwnerRead} → r.owner ≡ Some o → {b' u u' : List ℕ} {c : ℕ} (hs : List ℕ) → Tells b (λ t. hs ≡ parents_for o.connection (at k t))
-      → KeysListed b b' u u' c (λ m t. announce_parents m o.connection v hs t)
-      → Becomes b b' (λ m t. owner_parents m v (at k t).owner (at k t) t)
-  hand_some {o} z {b'} hs h l st s w =
-      let q = at k st.table in
-      subst (λ (t : Table). Writes b' (on_table t st))
-      (ap (λ (y : List ℕ). (announce_parents (limits_of st) o.connection v y st.table).table) (h st s w)
-      ∙ ap (λ (z : Option Owner). owner_parents (limits_of st) v z q st.table) (sym (owner-some (x st s w) z)))
-      (l.table st s w)
 
 -- ---- the whole
 

@@ -110,6 +110,3 @@ module _ {c : ℕ} {hs xs : List ℕ} {j : ℕ} (i : ℕ) (v : NoneFrom c hs xs 
 
   pub found_here : {h : ℕ} → eqb (get_or xs i 0) c ≡ true → h ≡ get_or hs i 0 → some (wtxid h) ≡ last_among c hs xs
   found_here {h} y q = sym (later_wins c i hs xs (wtxid h) (step_is ∙ rw (y, q)))
-
-pub found_none : {c : ℕ} {hs xs : List ℕ} {j : ℕ} → NoneFrom c hs xs j → j ≤ 0 → none ≡ last_among c hs xs
-found_none {c} {hs} {xs} {j} v z = let e : j ≡ 0 = omega arith in sym (rw e at v.is)

@@ -102,14 +102,6 @@ pub missing_each : (o : Option Key) (n v : ℕ) → o ≡ none → (m : Limits) 
 unfolding some_keys fail_each
 missing_each o n v e m t = rw e
 
-module _ {b u : List ℕ} {c : ℕ} (n v : ℕ) {o : Option Key} where
-  pub same_claim : {b' u' : List ℕ} {r : ℕ} {p : Option Key} → o ≡ p → ListedOn b b' u u' c r (λ m t. fail_each m n v (some_keys (o ∷ [])) t)
-      → ListedOn b b' u u' c r (λ m t. fail_each m n v (some_keys (p ∷ [])) t)
-  same_claim {b'} {u'} {r} e l = subst (λ (x : Option Key). ListedOn b b' u u' c r (λ m t. fail_each m n v (some_keys (x ∷ [])) t)) e l
-
-  pub no-claim : o ≡ none → ListedOn b b u u c c (λ m t. fail_each m n v (some_keys (o ∷ [])) t)
-  no-claim e = nothing_on u c (λ m t. fail_each m n v (some_keys (o ∷ [])) t) (λ st s w. missing_each o n v e (limits_of st) st.table)
-
 abbrev then : Listed → Listed → Listed
 then a x = record { keys = a.keys ++ x.keys; table = x.table }
 
@@ -294,8 +286,3 @@ failed_done {b₀} {b} {u₀} {u} {n} {v} {os} {i} {c} cs f h e =
 -- whether n owns the request at the Wtxid key with hash h
 pub owner-reads : {h : ℕ} (n : ℕ) (t : Table) {k : Key} → k ≡ wtxid h → {r : Read} → RequestOf (at k t) r → {b : Bool} → b ≡ owner_is n (owner_as r.owner) → b ≡ owner_is n (at (wtxid h) t).owner
 owner-reads n t e x d = owner-is x n d ∙ ap (λ (j : Key). owner_is n (at j t).owner) e
-
-pub part_room : (u : List ℕ) (c x y : ℕ) → x ≡ c * key_bytes → y ≡ length u → key_bytes * (c + (max_parents + 1)) ≤ length u → key_bytes * (max_parents + 1) ≤ length (take (y - x) (drop x u))
-part_room u c x y ex ey room =
-    let whole : take (y - x) (drop x u) ≡ drop x u = take_all (y - x) (drop x u) (simp length-drop (omega arith)) in
-    rw whole (simp length-drop (omega arith))

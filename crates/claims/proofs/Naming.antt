@@ -2,11 +2,10 @@
 use Prim.Native.Nat.{ℕ, zero, suc, ◌+◌, ◌≤◌, ◌<◌}
 use mathlib.Core.Path.{◌≡◌, refl, sym, ap, subst, ◌∙◌}
 use mathlib.Core.Logic.{inl, inr}
-use mathlib.Core.Bool.{Bool, true, false}
+use mathlib.Core.Bool.{Bool}
 use mathlib.Core.List.{List, [], ◌∷◌, map}
 use mathlib.Core.Option.{Option, none, some}
 use native.Mathlib.Omega.{arith}
-use lib.Dec.{eqb}
 use lib.ListN.{length, take, get_or, length-map}
 use Rattle.std.specs.Prelude as std
 use Rattle.std.specs.Bool.{then_some}
@@ -23,7 +22,7 @@ use Rattle.machine.specs.Package.{claim_key, some_keys, fail_each, failed_packag
 use Rattle.machine.specs.Wrapper.{is_type, packages_in}
 use Rattle.machine.specs.Typed.{Each}
 use Rattle.machine.specs.Sound.{All, Lawful, Ordered}
-use Rattle.machine.proofs.Tests.{test, never}
+use Rattle.machine.proofs.Tests.{test}
 use Rattle.machine.proofs.Failing.{HoldsPlace, holds_claims}
 use Rattle.lent_lists.specs.Lists.{hashes_in}
 use Rattle.lent_lists.specs.Items.{items_in}
@@ -134,9 +133,6 @@ kind-type (Other m) n = refl
 pub entries-items : {g : Given} {b : Bor (List ℕ)} → g ≡ Items b → length (items_in b.now) ≡ length (entries_in g)
 entries-items {b = b} e = rw e (sym (length-map (items_in b.now) package_named))
 
-pub entries-hashes : {g : Given} {b : Bor (List ℕ)} → g ≡ Hashes b → length (hashes_in b.now) ≡ length (entries_in g)
-entries-hashes {b = b} e = rw e (sym (length-map (hashes_in b.now) some))
-
 named_held : (i : Item) (h : Hash) {held : Bool} → held ≡ is_type msg_pkg_txns i.kind → hash_num h ≡ i.hash → hash_found (then_some held h) ≡ package_named i
 named_held i h e q = elim (test (is_type msg_pkg_txns i.kind)) [ inl d ↦ rw (e, d) (ap some q) | inr d ↦ rw (e, d) ]
 
@@ -145,8 +141,3 @@ pub entry-item : {g : Given} {b : Bor (List ℕ)} (i : ℕ) (x : Item) (h : Hash
 entry-item {g} {b} i x h e l is q s t =
     let inside : i < length (items_in b.now) = omega (arith, entries-items e, l) in
     rw e (ap hash_found t ∙ named_held x h q s ∙ ap package_named (is x) ∙ named_at package_named (items_in b.now) i x inside)
-
-pub entry-hash : {g : Given} {b : Bor (List ℕ)} (i : ℕ) {h : ℕ} → g ≡ Hashes b → i < length (entries_in g) → h ≡ get_or (hashes_in b.now) i 0 → some h ≡ get_or (entries_in g) i none
-entry-hash {g} {b} i e l q =
-    let inside : i < length (hashes_in b.now) = omega (arith, entries-hashes e, l) in
-    rw e (ap some q ∙ named_at some (hashes_in b.now) i 0 inside)

@@ -2,15 +2,14 @@
 use Prim.Native.Nat.{ℕ, suc, ◌≤◌}
 use mathlib.Core.Path.{◌≡◌, refl, ap, ◌∙◌}
 use mathlib.Core.Logic.{inl, inr}
-use mathlib.Core.Bool.{Bool, true, false, not, ◌&&◌, ◌||◌}
+use mathlib.Core.Bool.{Bool, true, false, ◌&&◌, ◌||◌}
 use mathlib.Core.List.{List, [], ◌∷◌, map, append-nil}
 use mathlib.Core.Option.{Option, none, some}
 use native.Mathlib.Omega.{arith}
 use lib.Dec.{eqb}
 use lib.ListN.{length}
 use borrow.Author.Tests.{eqb-true, eq-eqb, ne_eqb}
-use Rattle.std.specs.Option.{option_eq}
-use Rattle.std.specs.Prelude.{if◌then◌else◌, Some}
+use Rattle.std.specs.Prelude.{if◌then◌else◌}
 use Rattle.ident.specs.Number.{Key, place}
 use Rattle.regions.specs.declared.Row.{Row}
 use Rattle.regions.specs.Regions.{each}
@@ -25,11 +24,7 @@ use Rattle.store.specs.FlatSound.{owns}
 use Rattle.store.specs.Gather.{key_at}
 use Rattle.store.proofs.Bits.{key_row, conn-row, owns-row}
 use Rattle.store.proofs.Counts.{DistinctIn, distinct_in}
-use Rattle.package_stages.specs.contracts.StagePartialEq.TheImpl.{eq-value}
-use Rattle.package_stages.specs.declared.Request.{Request as Read}
-use Rattle.package_stages.specs.declared.Stage.TheVariants.{Awaiting}
-use Rattle.package_stages.proofs.Read.{stage-is}
-use Rattle.package_stages.specs.Changes.{stage_of, has_place, RequestOf}
+use Rattle.package_stages.specs.Changes.{has_place}
 use Rattle.package_stages.specs.Dead.{filter}
 use Rattle.claims.specs.Awaited.{awaiting, is_claim, claims_in, is_claim_row, claim_of}
 
@@ -43,15 +38,6 @@ pub claim-no : (n : ℕ) (t : Table) (r : Row) → is_claim_row n t r ≡ false 
 unfolding claim_of
 claim-no n t r e = rw e
 
-stage-awaiting : (i : Bool) (p : Option Package) → eqb (stage_of i p) 2 ≡ awaiting p
-stage-awaiting i (some p) = go p.enqueued
-  where
-    go : (e : Bool) → eqb (stage_of i (some (record { combined = p.combined; wtxids = p.wtxids; enqueued = e }))) 2 ≡ not e
-    go true = refl
-    go false = refl
-stage-awaiting true none = refl
-stage-awaiting false none = refl
-
 pub awaiting-place : (q : Request) → awaiting q.«package» ≡ true → has_place q ≡ true
 awaiting-place q e = go q.info q.«package» e
   where
@@ -61,16 +47,8 @@ awaiting-place q e = go q.info q.«package» e
     go false none e = never e
 
 module _ (n : ℕ) (r : Row) where
-  pub row-others : (r.conn ≡ n → ⊥) → (t : Table) → false ≡ is_claim_row n t r
-  row-others e t = rw (ne_eqb r.conn n e)
-
   pub row-free : r.conn ≡ n → (own_bit r ≡ 1 → ⊥) → (t : Table) → false ≡ is_claim_row n t r
   row-free c e t = rw (eq-eqb r.conn n c, ne_eqb (own_bit r) 1 e)
-
-  pub row_staged : r.conn ≡ n → own_bit r ≡ 1 → {k : Key} (t : Table) {q : Read} → k ≡ key_at r → RequestOf (at k t) q → option_eq eq-value.it q.stage (Some Awaiting) ≡ is_claim_row n t r
-  row_staged c e {k} t {q} j x =
-      rw (eq-eqb r.conn n c, eq-eqb (own_bit r) 1 e)
-      (stage-is x Awaiting ∙ stage-awaiting (at k t).info (at k t).«package» ∙ ap (λ (z : Key). awaiting (at z t).«package») j)
 
 -- ---- the rows of a table
 

@@ -1,10 +1,10 @@
-use mathlib.Core.Path.{refl, sym, ap, ◌∙◌}
+use mathlib.Core.Path.{sym, ◌∙◌}
 use native.Mathlib.Omega.{arith}
-use Rattle.ident.specs.Number.{Key, wtxid}
+use Rattle.ident.specs.Number.{wtxid}
 use Rattle.ident.specs.Words.{hash_num, key_num}
 use Rattle.machine.specs.State.{limits_of}
 use Rattle.machine.specs.Package.{failed_with_parents}
-use Rattle.claims.proofs.Listing.{listed_on, nothing_on, same_on, fails-nothing, fails_few, owner-reads, part_room}
+use Rattle.claims.proofs.Listing.{nothing_on, fails-nothing, fails_few, owner-reads}
 use Rattle.claims.proofs.waiting.fail_claim.Goals as goal
 
 pub returns-then-not-is_owned_by : goal.returns-then-not-is_owned_by
@@ -14,19 +14,6 @@ returns-then-not-is_owned_by c = nothing_on _ c.args.c
     (limits_of st) (wtxid (hash_num c.args.h)) c.args.n.number
     c.args.clock st.table (sym (owner-reads c.args.n.number st.table c.from-k.ensures
     (c.request_at-q.ensures.is st s w) c.is_owned_by.ensures) ∙ c.if-not-is_owned_by.true))
-
-pub failed_with_parents-r-requires : goal.failed_with_parents-r-requires
-failed_with_parents-r-requires c = (
-  c.requires.0,
-  part_room c.args.out.now
-      c.args.c _ _ refl refl (c.requires.2
-      c.requires.0.state c.requires.0.sound
-      c.requires.0.writes (sym (owner-reads c.args.n.number _ c.from-k.ensures
-      (c.request_at-q.ensures.is c.requires.0.state
-      c.requires.0.sound
-      c.requires.0.writes)
-      c.is_owned_by.ensures) ∙ c.if-not-is_owned_by.false)),
-)
 
 pub overflow_add-result : goal.overflow_add-result
 overflow_add-result c = omega (
@@ -43,19 +30,3 @@ overflow_add-result c = omega (
       c.requires.0.state
       c.requires.0.sound,
 )
-
-pub returns : goal.returns
-returns c = same_on (λ m t. failed_with_parents m (key_num c.from-k.result)
-    c.args.n.number
-    c.args.clock t)
-    (λ m t. failed_with_parents m (wtxid (hash_num c.args.h))
-    c.args.n.number
-    c.args.clock t)
-    (λ m t. ap (λ (k : Key). failed_with_parents m k c.args.n.number
-    c.args.clock t)
-    c.from-k.ensures)
-    (listed_on _ c.args.c _ _ refl refl
-    (λ m t. failed_with_parents m (key_num c.from-k.result)
-    c.args.n.number
-    c.args.clock t)
-    c.failed_with_parents-r.ensures)

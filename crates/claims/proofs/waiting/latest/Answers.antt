@@ -3,7 +3,7 @@ use mathlib.Core.Path.{sym, ap, ◌∙◌}
 use native.Mathlib.Omega.{arith}
 use lib.Dec.{eqb}
 use Rattle.ident.specs.Words.{hash_num}
-use Rattle.claims.proofs.LastOnes.{none_yet, none_more, found_here, found_none}
+use Rattle.claims.proofs.LastOnes.{none_yet, none_more, found_here}
 use Rattle.claims.proofs.waiting.latest.Goals as goal
 
 pub loop-j-init : goal.loop-j-init
@@ -19,6 +19,3 @@ pub loop-j-preserved : goal.loop-j-preserved
 loop-j-preserved c = none_more (c.loop-j.j - 1) c.loop-j.invariant c.args.claims.paired
     (omega (arith, c.loop-j-test.true)) (ap (λ (z : ℕ). eqb z (hash_num c.in-Some.c))
     (sym c.hash_in-x.ensures) ∙ sym c.same_hash.ensures ∙ c.if-same_hash.false)
-
-pub returns : goal.returns
-returns c = rw c.in-Some.is (found_none c.loop-j.invariant (omega (arith, c.loop-j-test.false)))
