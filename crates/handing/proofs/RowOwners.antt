@@ -88,12 +88,3 @@ row-says st s n k {key} w {i} {r} l e c same =
     let q = get_or (rows_of t) i r in
     let here : place (key_num k) ≡ place (key_at q) = sym w.number ∙ sym same ∙ row_number r ∙ ap (λ (y : Row). place (key_at y)) e in
     ap owns e ∙ x.owner (key_num k) here ∙ ap (λ (m : ℕ). owner_is m (at (key_num k) t).owner) (sym (conn-at (rows_of t) i r l) ∙ c)
-
--- two keys of which neither comes first
-pub neither_first : (a b : ℕ) → (not (ltb a b) && not (ltb b a)) ≡ true → a ≡ b
-neither_first a b e = go (ltb a b) (ltb b a) refl refl e
-  where
-    go : (x y : Bool) → ltb a b ≡ x → ltb b a ≡ y → (not x && not y) ≡ true → a ≡ b
-    go true y p q z = never z
-    go false true p q z = never z
-    go false false p q z = omega (arith, ltb-false a b p, ltb-false b a q)

@@ -49,7 +49,8 @@ fn copy_conns(s: &[u8], k: ident::Key, conns: &mut [u8]) -> usize
 }
 
 // Announces the parents for the connection x, and puts the keys of those kept in order among the first n of u. Answers how many
-// keys there are then.
+// keys there are then. (u is lent longer than its n keys, since more go behind these: merging takes the two so, and a slice of n keys has
+// no room to grow.)
 fn announce_for(
     s: &mut [u8],
     x: Connection,

@@ -7,7 +7,7 @@ use Rattle.machine.specs.Limits.{word}
 use Rattle.machine.proofs.Fail.{FewHashes}
 use Rattle.lent_lists.specs.Lists.{hashes_in}
 use Rattle.lent_lists.proofs.Given.{hashes-fit}
-use Rattle.handing.proofs.Announcing.{handing_none, handing_kept, handing-long, handing-order, handing-room, handing_more, handing_done, next_peer}
+use Rattle.handing.proofs.Announcing.{handing_none, handing_kept, handing-order, handing-room, handing_more, handing_done, next_peer}
 use Rattle.handing.proofs.announce_each.Goals as goal
 
 pub loop-i-init : goal.loop-i-init
@@ -38,12 +38,6 @@ loop-i-preserved c =
     let inside : c.loop-i.i < length (words c.args.conns.now) = omega (arith, length-words c.args.conns.now, c.loop-i-test.true) in
     handing_more late few c.requires.2 c.requires.3 c.requires.4 c.loop-i.invariant c.get-number.result inside c.get-number.ensures
     c.announce_for-r.auto.s c.announce_for-r.ensures
-
-pub shape_of-u : goal.shape_of-u
-shape_of-u c =
-    let late : c.args.clock < word = omega arith in
-    let few : FewHashes (hashes_in c.args.list.now) = record { hashes = hashes-fit c.args.list.now (λ j. omega (arith, c.type_inv.list j)); few = c.requires.1 } in
-    handing-long late few c.requires.2 c.requires.3 c.requires.4 c.loop-i.invariant c.requires.0
 
 pub returns : goal.returns
 returns c =

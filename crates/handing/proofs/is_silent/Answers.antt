@@ -1,4 +1,3 @@
-use mathlib.Core.Logic.{inl}
 use Rattle.ident.specs.Words.{key_num}
 use Rattle.handing.proofs.GivingBack.{single-silent}
 use Rattle.handing.proofs.is_silent.Goals as goal
