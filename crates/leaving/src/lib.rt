@@ -3,6 +3,9 @@
 //
 // The keys of the connection and those of the parents stand in one buffer, the answer that document 01 asks for, with the number of its own keys beside it: cut in
 // two at its own keys, each turn would have to say that both parts are the buffer that was lent. Other numbers beside it are indices of keys.
+//
+// s, n, clock and out are arguments of their own, as document 01's call gives them: no step keeps them, and a struct of them would hold the
+// lends of both the store and the answer, to be taken apart in each step.
 #![tactic(auto)]
 
 ghost use Rattle.std.specs.Prelude.{◌≡◌, ℕ, min, ◌+◌, ◌*◌, ◌≤◌, ◌<◌, List, length};

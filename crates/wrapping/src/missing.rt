@@ -1,5 +1,8 @@
 // transaction_not_found: the items that a connection does not have. An item of package information fails with its parents, any other
 // item with a key just fails; then the claims of the packages among the items fail.
+//
+// s, n, items, clock and out are arguments of their own, as document 01's call gives them: no step keeps them, and a struct of them would hold
+// the lends of both the store and the answer, to be taken apart in each step.
 ghost use Rattle.std.specs.Prelude.{◌+◌, ◌*◌, ◌≤◌, length};
 ghost use Rattle.std.proofs.Math.Option.{some};
 ghost use Rattle.ident.specs.Words.{key_num, item_num};
