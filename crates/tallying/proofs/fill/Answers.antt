@@ -1,6 +1,5 @@
 -- `tallying::fill` meets its contract.
-use native.Mathlib.Omega.{arith}
-use Rattle.tallying.proofs.Filling.{filling_none, filling_shown, filling_row, filling_room, filling_more, filling_done}
+use Rattle.tallying.proofs.Filling.{filling_none, filling_shown, filling_row, filling_room, filling_more}
 use Rattle.tallying.proofs.fill.Goals as goal
 
 pub loop-i-init : goal.loop-i-init
@@ -26,6 +25,3 @@ pub loop-i-preserved : goal.loop-i-preserved
 loop-i-preserved c = filling_more c.requires.0
     c.loop-i.invariant c.loop-i-test.true
     c.row_at-r.ensures c.add_conn.ensures c.add_conn.auto.s
-
-pub returns : goal.returns
-returns c = filling_done c.requires.0 c.loop-i.invariant (omega (arith, c.loop-i.invariant.most, c.loop-i-test.false))
