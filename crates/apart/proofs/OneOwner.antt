@@ -5,6 +5,7 @@ use mathlib.Core.Logic.{inl, inr}
 use mathlib.Core.Bool.{Bool, true, false}
 use mathlib.Core.List.{List, [], ◌∷◌, ◌++◌, append_assoc, append-nil}
 use native.Mathlib.Omega.{arith}
+use lib.Dec.{eqb}
 use lib.ListN.{length, take, drop, get_or, set, length-map, length-set}
 use lib.Seq.{map-set_same, get_or-set_other}
 use Rattle.ident.specs.declared.Kind.{Kind}
@@ -148,7 +149,7 @@ dying-parents (x ∷ xs) (suc i) = dying-parents xs i
 
 module _ (r : Spot) (xs : List Slot) where
   by_stage : (P : List Slot → Type 0) → P xs → P (set xs r.at (dying (get_or xs r.at nowhere))) → P (lapsed r xs)
-  by_stage P u w = elim (test r.enqueued) [ inl e ↦ rw e u | inr e ↦ rw e w ]
+  by_stage P u w = elim (test (eqb r.stage 3)) [ inl e ↦ rw e u | inr e ↦ rw e w ]
 
   lapsed-hashes : place_hashes (plain (lapsed r xs)) ≡ place_hashes (plain xs)
   lapsed-hashes = by_stage (λ ys. place_hashes (plain ys) ≡ place_hashes (plain xs)) refl (set-hashes dying (λ x. refl) xs r.at)

@@ -175,7 +175,7 @@ module _ (r : Spot) (xs : List Slot) where
   place_here = plain_at xs r.at (blank 0 0)
 
   pub lapsed_as : (P : List Place → Type 0) → P (plain xs) → P (set (plain xs) r.at (with_stage 0 (get_or (plain xs) r.at (blank 0 0)))) → P (plain (lapsed r xs))
-  lapsed_as P u w = elim (test r.enqueued) [
+  lapsed_as P u w = elim (test (eqb r.stage 3)) [
     | inl e ↦ rw e u
     | inr e ↦ rw e (subst P (ap (λ (q : Place). set (plain xs) r.at (with_stage 0 q)) place_here ∙ sym (plain-set xs r.at (dying (get_or xs r.at nowhere)))) w)
   ]
@@ -216,19 +216,19 @@ module _ {b f : List ℕ} {m : ℕ} {st : State} {xs : List Slot} (o : Apart b f
   pub parents-are : (at k t).parents ≡ p.parents
   parents-are = ap (λ (x : Place). x.parents) place_is
 
-  pub enqueued_is : enqueued_in (at k t).«package» ≡ r.enqueued
-  enqueued_is = stage-enqueued (at k t).info (at k t).«package» ∙ ap (λ (x : Place). eqb x.stage 3) place_is ∙ sym (h.enqueued (blank 0 0))
+  pub enqueued_is : enqueued_in (at k t).«package» ≡ eqb r.stage 3
+  enqueued_is = stage-enqueued (at k t).info (at k t).«package» ∙ ap (λ (x : Place). eqb x.stage 3) place_is ∙ ap (λ (n : ℕ). eqb n 3) (sym (h.stage (blank 0 0)))
 
   -- ---- it lapses
 
   module _ (n now : ℕ) where
-    pub lapse_stays : r.enqueued ≡ true → LapsedTo b f m st xs r k n now
+    pub lapse_stays : eqb r.stage 3 ≡ true → LapsedTo b f m st xs r k n now
     lapse_stays e = record {
       writes = subst (λ (x : Table). Writes (take m b) (bare_state (on_table x st))) (sym (ap (λ (a : Answer). a.table) (enqueued_stays k n now t (enqueued_is ∙ e)))) o.writes;
       slots = subst (λ (x : Bool). Slots b f m st.places (if x then xs else set xs r.at (dying q))) (sym e) o.slots;
     }
 
-    pub lapse-fails : {v : List ℕ} {reply : Bool} {b₁ b₂ f₂ : List ℕ} → r.enqueued ≡ false → m ≤ length b → length v ≡ length (take (m - 0) (drop 0 b))
+    pub lapse-fails : {v : List ℕ} {reply : Bool} {b₁ b₂ f₂ : List ℕ} → eqb r.stage 3 ≡ false → m ≤ length b → length v ≡ length (take (m - 0) (drop 0 b))
         → Answered (take (m - 0) (drop 0 b)) v reply (λ l x. failed k n now x) → b₁ ≡ take 0 b ++ (v ++ drop (m - 0) (drop 0 b)) → Altered b₁ b₂ f f₂ m r.at dying → LapsedTo b₂ f₂ m st xs r k
         n now
     lapse-fails {v} {b₁ = b₁} {b₂} {f₂} e l nv ans e₁ kill = record {
@@ -260,7 +260,7 @@ module _ {b f : List ℕ} {m : ℕ} {st : State} {xs : List Slot} (o : Apart b f
             ∙ ap (λ (hs : List ℕ). parents_from (limits_of st) n now 0 hs x) (dedup-distinct (at k t).parents lawful.parents.distinct ∙ parents-are)
 
         lives_still : filter live (plain (lapsed r xs)) ≡ places_of (expire_at (limits_of st) now k n t).table
-        lives_still = elim (test r.enqueued) [
+        lives_still = elim (test (eqb r.stage 3)) [
           | inl e ↦ rw e (o.lives ∙ sym (places-enqueued k n now small late o.sound.bounded own (enqueued_is ∙ e)))
           | inr e ↦ rw e (ap (filter live) (plain-set xs r.at (dying q) ∙ ap (λ (y : Place). set ps r.at (with_stage 0 y)) (sym p_is)) ∙ dies-filter 0 ps r.at (blank 0 0) o.ascend h.inside ∙
               rw (h.hash (blank 0 0), o.lives)

@@ -167,14 +167,14 @@ module _ {b f : List ℕ} {m n : ℕ} where
             let o = ap (λ (j : ℕ). (get_or ps j d).stage) u in
             omega arith))
 
-        pub spot_found : (p.stage ≡ 0 → ⊥) → SpotIn b f m n (wtxid h) (rust.Some (record { at = i; enqueued = eqb p.stage 3; parents = p.parents }))
+        pub spot_found : (p.stage ≡ 0 → ⊥) → SpotIn b f m n (wtxid h) (rust.Some (record { at = i; stage = p.stage; parents = p.parents }))
         spot_found z = record {
           held = λ v d Q xs c s a. subst (SpotHeld (plain xs) (wtxid h)) (same_Some _ v d) (record {
             kind = refl;
             inside = within xs c;
             hash = λ d. same Q xs c s a d;
             lives = λ d. omega (arith, z, head-stage (get_or (plain xs) i d) (here Q xs c s d));
-            enqueued = λ d. ap (λ (n : ℕ). eqb n 3) (head-stage (get_or (plain xs) i d) (here Q xs c s d));
+            stage = λ d. head-stage (get_or (plain xs) i d) (here Q xs c s d);
             parents = λ d. head-parents (get_or (plain xs) i d) (here Q xs c s d);
           });
           none = λ d. absurd (none-some _ (sym d));

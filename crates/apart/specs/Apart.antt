@@ -2,7 +2,7 @@
 -- it, the others behind those bytes. A place whose stage is 0 is dead: its request has lost it. Which of its parents were kept is noted in
 -- two of the words of a place that are zero at rest.
 use Rattle.std.specs.Prelude as rust
-use Rattle.std.specs.Prelude.{eqb, ℕ, ◌+◌, ◌-◌, ◌*◌, ◌≤◌, ◌<◌, ◌≡◌, ◌⊎◌, true, List, [], ◌∷◌, map, length, take, drop, get_or, set}
+use Rattle.std.specs.Prelude.{ℕ, ◌+◌, ◌-◌, ◌*◌, ◌≤◌, ◌<◌, ◌≡◌, ◌⊎◌, true, List, [], ◌∷◌, map, length, take, drop, get_or, set}
 use Rattle.ident.specs.declared.Kind.TheVariants.{Txid, Wtxid}
 use Rattle.ident.specs.Number.{Key}
 use Rattle.words.specs.Words.{words, splice}
@@ -128,7 +128,7 @@ pub record SpotHeld (ps : List Place) (k : Key) (r : Spot) : Type 0 where
   pub inside : r.at < length ps
   pub hash : (d : Place) → (get_or ps r.at d).hash ≡ k.hash
   pub lives : (d : Place) → 0 < (get_or ps r.at d).stage
-  pub enqueued : (d : Place) → r.enqueued ≡ eqb (get_or ps r.at d).stage 3
+  pub stage : (d : Place) → r.stage ≡ (get_or ps r.at d).stage
   pub parents : (d : Place) → r.parents ≡ length (get_or ps r.at d).parents
 
 -- no place that is not dead is that of k

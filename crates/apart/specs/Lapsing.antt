@@ -1,5 +1,5 @@
 -- An owner whose time is over, where the places are set apart.
-use Rattle.std.specs.Prelude.{ℕ, suc, ◌≤◌, ◌<◌, ◌≡◌, true, List, [], ◌∷◌, ◌++◌, length, take, get_or, set, if◌then◌else◌}
+use Rattle.std.specs.Prelude.{eqb, ℕ, suc, ◌≤◌, ◌<◌, ◌≡◌, true, List, [], ◌∷◌, ◌++◌, length, take, get_or, set, if◌then◌else◌}
 use Rattle.ident.specs.Number.{Key, place, wtxid}
 use Rattle.places.specs.Places.{blank}
 use Rattle.machine.specs.Limits.{Limits}
@@ -37,7 +37,7 @@ nowhere = at_rest (blank 0 0)
 
 -- the place of an Enqueued package stays, another dies
 abbrev pub lapsed : Spot → List Slot → List Slot
-lapsed r xs = if r.enqueued then xs else set xs r.at (dying (get_or xs r.at nowhere))
+lapsed r xs = if eqb r.stage 3 then xs else set xs r.at (dying (get_or xs r.at nowhere))
 
 pub record LapsedTo (b' f' : List ℕ) (m : ℕ) (st : State) (xs : List Slot) (r : Spot) (k : Key) (n now : ℕ) : Type 0 where
   pub writes : Writes (take m b') (bare_state (on_table (failed k n now st.table).table st))
@@ -47,12 +47,11 @@ abbrev pub Lapses : List ℕ → List ℕ → List ℕ → List ℕ → ℕ → 
 Lapses b b' f f' m r k n now = (st : State) (xs : List Slot) → Apart b f m st xs → SpotHeld (plain xs) k r → LapsedTo b' f' m st xs r k n now
 
 -- some state whose places are set apart has the place r at k
-pub record PlaceExpiring (b f : List ℕ) (m : ℕ) (r : Spot) (k : Key) (n : ℕ) : Type 0 where
+pub record PlaceExpiring (b f : List ℕ) (m : ℕ) (r : Spot) (k : Key) : Type 0 where
   pub state : State
   pub places : List Slot
   pub apart : Apart b f m state places
   pub held : SpotHeld (plain places) k r
-  pub some_peer : 1 ≤ n
 
 -- ---- an owner
 

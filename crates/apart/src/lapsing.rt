@@ -10,6 +10,7 @@ ghost use Rattle.apart.specs.Lapsing.{Lapses, PlaceExpiring, PlaceExpires, Expir
 use crate::parents::Parents;
 use crate::{noting, slots};
 use ident::connection::Connection;
+use places::ENQUEUED;
 
 // The owner n of the request at k, whose place is p, fails, unless its package is Enqueued, and the place dies.
 fn lapse(
@@ -24,7 +25,7 @@ fn lapse(
     requires { Room s.old first.old m (p.at + 1) × Kept (take m s.old) }
     ensures { Lapses s.old s.new first.old first.new m p (key_num k) n clock }
 {
-    if !p.enqueued {
+    if p.stage != ENQUEUED {
         failing::failed(&mut s[0..m], k, n, clock);
         slots::kill(s, m, first, p.at);
     }
@@ -41,7 +42,7 @@ fn expire_place(
     clock: u64,
     spent: bool,
 ) -> noting::Announced
-    requires { PlaceExpiring s.old first.old m p (key_num k) n.number × Exhausted (take m s.old) spent }
+    requires { PlaceExpiring s.old first.old m p (key_num k) × Exhausted (take m s.old) spent }
     ensures { PlaceExpires s.old s.new first.old first.new m p (key_num k) n.number clock result }
 {
     let mut slot = crate::slot_room();

@@ -10,13 +10,13 @@ ghost use Rattle.places.specs.Places.{place_size};
 ghost use Rattle.regions.specs.Rows.{quad_number};
 ghost use Rattle.apart.specs.Apart.{slot_bytes, kept_at, with_notes, dying, Room, Loaded, HeadIn, SoughtIn, Altered, NoteAt, NoteIn, Forgotten, SpotIn};
 
-use places::{DEAD, ENQUEUED, PLACE};
+use places::{DEAD, PLACE};
 
-// A place that is not dead: its number, and how many parents it has. `enqueued` is a property of its package, beside these.
+// A place that is not dead: its number, the word of its stage (any bytes may have one that names no stage), and how many parents it has.
 #[derive(Clone, Copy)]
 pub struct Spot {
     pub at: usize,
-    pub enqueued: bool,
+    pub stage: u64,
     pub parents: usize,
 }
 
@@ -169,7 +169,7 @@ fn find_hash(s: &[u8], m: usize, first: &[u8], n: usize, h: ident::Hash) -> Opti
     }
     Some(Spot {
         at: i,
-        enqueued: p.stage == ENQUEUED,
+        stage: p.stage,
         parents: p.parents as usize,
     })
 }

@@ -29,7 +29,6 @@ expire_place-r-requires c = let x = c.requires.0 in (
     places = x.places;
     apart = x.apart;
     held = found_held x c.find.ensures c.in-Some.is;
-    some_peer = c.args.n.positive;
   },
   c.requires.1,
 )

@@ -1,6 +1,6 @@
 -- `apart::lapsing::lapse` meets its contract.
 use mathlib.Core.Path.{refl, sym, subst}
-use borrow.Author.Tests.{not-true, not-false}
+use borrow.Author.Tests.{eq-eqb, ne_eqb}
 use Rattle.store.specs.Shown.{Kept}
 use Rattle.apart.proofs.Overdue.{front_lent, lapse-fails, lapse_stays}
 use Rattle.apart.proofs.lapsing.lapse.Goals as goal
@@ -8,8 +8,9 @@ use Rattle.apart.proofs.lapsing.lapse.Goals as goal
 pub failed-requires : goal.failed-requires
 failed-requires c = subst Kept (sym (front_lent c.args.s.now c.args.m)) c.requires.1
 
-pub returns-then-not-p : goal.returns-then-not-p
-returns-then-not-p c = λ st ps o h. lapse-fails o h c.args.n c.args.clock (not-true c.args.p.enqueued c.if-not-p.true) c.requires.0.front c.failed.auto.s c.failed.ensures refl c.kill.ensures
+pub returns-then-p-ne-ENQUEUED : goal.returns-then-p-ne-ENQUEUED
+returns-then-p-ne-ENQUEUED c = λ st ps o h. lapse-fails o h c.args.n c.args.clock (ne_eqb c.args.p.stage 3 c.if-p-ne-ENQUEUED.true)
+    c.requires.0.front c.failed.auto.s c.failed.ensures refl c.kill.ensures
 
-pub returns-else-not-p : goal.returns-else-not-p
-returns-else-not-p c = λ st ps o h. lapse_stays o h c.args.n c.args.clock (not-false c.args.p.enqueued c.if-not-p.false)
+pub returns-else-p-ne-ENQUEUED : goal.returns-else-p-ne-ENQUEUED
+returns-else-p-ne-ENQUEUED c = λ st ps o h. lapse_stays o h c.args.n c.args.clock (eq-eqb c.args.p.stage 3 c.if-p-ne-ENQUEUED.false)
