@@ -40,6 +40,8 @@ module _ {b ws ps : List ℕ} {at : ℕ} {l : LineAt} (p : LineRead b at ws ps l
 
   pub request_next : {r : line-request.Request} → l.line ≡ IsRequest r → NextRequest b at ws ps (Some r) l.end
   request_next {r} e = record {
+    on = omega (arith, p.on);
+    moves = λ h. p.on;
     takes = record {
       on = p.on;
       is = λ t y.
@@ -49,8 +51,8 @@ module _ {b ws ps : List ℕ} {at : ℕ} {l : LineAt} (p : LineRead b at ws ps l
     missing = λ d. never (sym d);
   }
 
-  pub no-request : {end : ℕ} → ((r : line-request.Request) → l.line ≡ IsRequest r → ⊥) → NextRequest b at ws ps None end
-  no-request other = record { takes = tt; missing = λ d h t y. by_line l.line refl y }
+  pub no-request : ((r : line-request.Request) → l.line ≡ IsRequest r → ⊥) → NextRequest b at ws ps None l.end
+  no-request other = record { on = omega (arith, p.on); moves = λ h. p.on; takes = tt; missing = λ d h t y. by_line l.line refl y }
     where
       by_line : (m : line-line.Line) → l.line ≡ m → {t : Table} → Body b at (requests_only t) → ⊥
       by_line NoLine e y = no-bad-line p y (ap (line_in ws ps) e)
@@ -63,5 +65,5 @@ module _ {b ws ps : List ℕ} {at : ℕ} {l : LineAt} (p : LineRead b at ws ps l
 pub none_next : {b : List ℕ} {at : ℕ} → length b ≤ at → NextCandidate b at None at
 none_next h = record { takes = tt; stays = λ d. record { stays = refl; is = λ q y. ap (λ (x : Rest). x.candidates) (body_end y h) } }
 
-pub none_listed : {b ws ps : List ℕ} {at end : ℕ} → length b ≤ at → NextRequest b at ws ps None end
-none_listed h = record { takes = tt; missing = λ d g t y. omega arith }
+pub none_listed : {b ws ps : List ℕ} {at end : ℕ} → length b ≤ at → end ≡ at → NextRequest b at ws ps None end
+none_listed h e = record { on = omega (arith, e); moves = λ g. omega (arith, g); takes = tt; missing = λ d g t y. omega arith }

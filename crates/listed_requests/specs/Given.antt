@@ -55,6 +55,8 @@ pub record TakesRequest (b : List ℕ) (at : ℕ) (ws ps : List ℕ) (r : line-r
 
 -- a line is left only where requests are
 pub record NextRequest (b : List ℕ) (at : ℕ) (ws ps : List ℕ) (r : Maybe line-request.Request) (end : ℕ) : Type 0 where
+  pub on : at ≤ end
+  pub moves : at < length b → at < end
   pub takes : IfSome r (λ q. TakesRequest b at ws ps q end)
   pub missing : IsNone r → at < length b → (t : Table) → Body b at (requests_only t) → ⊥
 
