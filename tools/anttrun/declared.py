@@ -50,5 +50,5 @@ def read(folder):
             if found.group(1) == "enum":
                 enums[found.group(2)] = [variant(p) for p in body]
             else:
-                structs[found.group(2)] = [field(p) for p in body]
+                structs[found.group(2)] = [field(p) for p in body if not p.startswith("ghost ")] # a ghost field is a fact, and holds nothing
     return enums, structs
