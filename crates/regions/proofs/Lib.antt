@@ -8,3 +8,4 @@ pub mod Records
 pub mod Less
 pub mod Retaining
 pub mod Hashes
+pub mod Bits

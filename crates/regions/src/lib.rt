@@ -24,6 +24,7 @@ use std::ops::Bound;
 pub mod keep;
 pub mod listed;
 pub mod ranges;
+mod row_bits; // row_bits.rt: a row's key, and what its bits say
 
 // Words of a row.
 pub const ROW: usize = 9;
@@ -49,7 +50,7 @@ pub struct Key {
 }
 
 // A candidate of a request. The deadline is 0 unless it owns the request; bits, packed as the bytes of a store are: 1 Wtxid kind, 2 item is v, 4 preferred, 8 owns, 16 mark.
-// (Readers divide, as the specs do.)
+// (`row_bits` says what each stands for; its methods divide, as the specs do.)
 #[derive(Clone, Copy)]
 pub struct Row {
     pub hash: Quad,
