@@ -12,7 +12,7 @@ use borrow.Author.Tests.{lt-ltb, le-ltb, ltb-true}
 use Rattle.ident.specs.declared.Kind.{Kind}
 use Rattle.std.specs.Prelude as std
 use Rattle.std.specs.Prelude.{if◌then◌else◌, Some, None, is_some}
-use Rattle.ident.specs.Number.{place, kind_is}
+use Rattle.ident.specs.Number.{Key, place}
 use Rattle.regions.specs.declared.Row.{Row}
 use Rattle.regions.specs.declared.Key.{Key as RowKey}
 use Rattle.regions.specs.Rows.{quad_number, key_number, key_of}
@@ -119,6 +119,6 @@ module _ (rs : List Row) where
 
 -- ---- the key of a row
 
-pub key-read : (r : Row) {k : Kind} {h : ℕ} → h ≡ quad_number r.hash → k ≡ kind_is (r.bits % 2) → record { kind = k; hash = h } ≡ key_at r
+pub key-read : (r : Row) {k : RowKey} {x : Key} → k ≡ key_of r → x ≡ record { kind = k.kind; hash = quad_number k.hash } → x ≡ key_at r
 unfolding key_at
-key-read r q e = rw (q, e)
+key-read r e q = rw (q, e)

@@ -2,22 +2,20 @@
 // greatest (priority, key, connection) (document 01, "announce"). What a scan has found so far is a row, if there is one.
 ghost use Rattle.std.specs.Prelude.{◌≡◌, ◌||◌, ◌≤◌};
 ghost use Rattle.ident.specs.Words.{hash_num, key_num};
-ghost use Rattle.regions.specs.Rows.{key_of};
 ghost use Rattle.machine.specs.Announce as machine;
 ghost use Rattle.machine.specs.Wrapper as wrapper;
 ghost use Rattle.store.specs.Flat.{Flat};
-ghost use Rattle.ident.specs.Number.{kind_is};
 ghost use Rattle.store.specs.Gather.{key_at};
 ghost use Rattle.store.specs.Image.{Shows};
 ghost use Rattle.store.specs.Shown.{rows_in, Shown, Kept};
 ghost use Rattle.requests.specs.Changes.{Tells};
 ghost use Rattle.announcing.specs.Evicts.{entry_at, found, is_lower, key_after, protected, or_row, greatest_over, part};
 
-// Whether a row's bits say that its candidate is preferred, or owns its request.
-pub fn stays(bits: u64) -> bool
-    ensures { result ≡ protected bits }
+// Whether a row's candidate is preferred, or owns its request. (`|` has no branch.)
+pub fn stays(r: regions::Row) -> bool
+    ensures { result ≡ protected r.bits }
 {
-    (bits / 4 % 2 == 1) | (bits / 8 % 2 == 1)
+    r.is_preferred() | r.owns()
 }
 
 // Whether a row's bits or its priority alone tell that it is not greater than what has been found. Most rows of a scan end here, in one
@@ -25,25 +23,15 @@ pub fn stays(bits: u64) -> bool
 fn passed(best: Option<regions::Row>, r: regions::Row) -> bool
     ensures { result ≡ (protected r.bits || is_lower r best) }
 {
-    stays(r.bits) | best.is_some_and(|row| r.prio < row.prio)
-}
-
-// What a row is in the order of. (`key_of` below is the same key as the machine has it. Both are public and stay; a `From` in `regions` would only stand beside them.)
-pub fn row_key(r: regions::Row) -> regions::Key
-    ensures { result ≡ key_of r }
-{
-    regions::Key {
-        kind: ident::Kind::from(r.bits % 2),
-        hash: r.hash,
-    }
+    stays(r) | best.is_some_and(|row| r.prio < row.prio)
 }
 
 // Whether a comes after b by key and connection.
 fn key_after(a: regions::Row, b: regions::Row) -> bool
     ensures { result ≡ key_after a b }
 {
-    let x = row_key(a);
-    let y = row_key(b);
+    let x = regions::Key::from(a);
+    let y = regions::Key::from(b);
     if regions::key_less(y, x) {
         return true;
     }
@@ -132,7 +120,7 @@ pub fn evictable(s: &[u8]) -> u64
     let mut m = 0;
     for i in 0..n {
         let r = store::rows::row_at(s, i);
-        if !stays(r.bits) {
+        if !stays(r) {
             m += 1;
         }
     }
@@ -145,8 +133,5 @@ pub fn evictable(s: &[u8]) -> u64
 pub fn key_of(r: regions::Row) -> ident::Key
     ensures { key_num result ≡ key_at r }
 {
-    ident::Key {
-        kind: ident::Kind::from(r.bits % 2),
-        hash: ident::Hash::from(r.hash),
-    }
+    ident::Key::from(regions::Key::from(r))
 }

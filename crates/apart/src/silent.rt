@@ -10,7 +10,7 @@ ghost use Rattle.apart.specs.Silent.{Placeless, dropped_all, is_due};
 pub fn is_due(r: regions::Row, clock: u64) -> bool
     ensures { result ≡ is_due clock r }
 {
-    (r.bits / 8 % 2 == 1) & (r.deadline <= clock)
+    r.owns() & (r.deadline <= clock)
 }
 
 // The i-th row: put behind the m that stay, unless its owner's time is over. Answers how many stay. (A step of a pass: no `keep::retain`, since a row

@@ -41,7 +41,7 @@ pub struct Chosen {
 fn rank(r: regions::Row) -> (u64, u64)
     ensures { (result.0 ≡ 1 - r.bits / 4 % 2) × (result.1 ≡ r.prio) }
 {
-    (1 - r.bits / 4 % 2, r.prio)
+    (u64::from(!r.is_preferred()), r.prio)
 }
 
 // Whether a comes before b. (A derived order of rows would compare all that a row has.)
@@ -107,7 +107,7 @@ fn owned_in(s: &[u8], x: requests::Window) -> bool
 {
     for i in x.from..x.to {
         let r = store::rows::row_at(s, i);
-        if r.bits / 8 % 2 == 1 {
+        if r.owns() {
             return true;
         }
     }

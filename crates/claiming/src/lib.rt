@@ -4,9 +4,9 @@
 // A row's bits are read as `regions::Row` says.
 #![tactic(auto)]
 
-ghost use Rattle.std.specs.Prelude.{◌≡◌};
+ghost use Rattle.std.specs.Prelude.{◌≡◌, ◌/◌, ◌%◌};
 ghost use Rattle.machine.specs.Claim as machine;
-ghost use Rattle.store.specs.Gather.{item_kind_as};
+ghost use Rattle.store.specs.Gather.{kind_is, item_kind_as};
 ghost use Rattle.store.specs.Shown.{Kept};
 ghost use Rattle.requests.specs.Changes.{Tells};
 ghost use Rattle.announcing.specs.Answers.{Answered};
@@ -32,12 +32,12 @@ pub struct Entry {
 
 // ---- the entry of a row
 
-fn item_kind(kind: ident::Kind, witness: u64) -> ident::ItemKind
-    ensures { result ≡ item_kind_as kind witness }
+fn item_kind(r: regions::Row) -> ident::ItemKind
+    ensures { result ≡ item_kind_as (kind_is (r.bits % 2)) (r.bits / 2 % 2) }
 {
-    match (kind, witness) {
-        (ident::Kind::Txid, 0) => ident::ItemKind::Transaction,
-        (ident::Kind::Txid, _) => ident::ItemKind::WitnessTransaction,
+    match (r.kind(), r.is_witness()) {
+        (ident::Kind::Txid, false) => ident::ItemKind::Transaction,
+        (ident::Kind::Txid, true) => ident::ItemKind::WitnessTransaction,
         (ident::Kind::Wtxid, _) => ident::ItemKind::WTx,
     }
 }
@@ -50,11 +50,11 @@ pub fn entry_of(r: regions::Row) -> Entry
         key,
         connection: r.conn,
         item: ident::Item {
-            kind: item_kind(key.kind, r.bits / 2 % 2),
+            kind: item_kind(r),
             hash: key.hash,
         },
         ready: r.ready,
-        preferred: r.bits / 4 % 2 == 1,
+        preferred: r.is_preferred(),
         priority: r.prio,
     }
 }

@@ -38,7 +38,7 @@ fn is_claim(s: &[u8], n: u64, r: regions::Row) -> bool
     if r.conn != n {
         return false;
     }
-    if r.bits / 8 % 2 != 1 {
+    if !r.owns() {
         return false;
     }
     let k = announcing::evict::key_of(r);

@@ -35,15 +35,11 @@ fn goes(r: regions::Row, p: Span) -> bool
     ensures { result ≡ row_in p.conn p.from p.to r }
 {
     if r.conn == p.conn {
-        let hash = r.hash;
-        let k = regions::Key {
-            kind: ident::Kind::from(r.bits % 2),
-            hash,
-        };
+        let k = regions::Key::from(r);
         let from = p.from;
         let to = p.to;
         let within = inside(k, from, to);
-        (r.bits / 8 % 2 != 1) & within
+        !r.owns() & within
     } else {
         false
     }

@@ -12,7 +12,7 @@ use announcing::foremost::Victims;
 fn goes(v: regions::Row, r: regions::Row) -> bool
     ensures { result ≡ goes_by v r }
 {
-    let stays = announcing::evict::stays(r.bits);
+    let stays = announcing::evict::stays(r);
     let after = announcing::evict::after(v, r);
     !stays & !after
 }

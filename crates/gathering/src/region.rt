@@ -47,7 +47,7 @@ pub fn put_in(new: &mut [u8], m: usize, y: regions::Row)
     requires { 8 * (row_size * (m + 1)) ≤ length new.old }
     ensures { PutIn (words new.old) (words new.new) m y }
 {
-    let k = announcing::evict::row_key(y);
+    let k = regions::Key::from(y);
     let i = regions::seek_row(new, m, Bound::Excluded(k));
     regions::insert(new, m, i, y);
 }

@@ -122,7 +122,7 @@ struct Seen {
 fn has_key(r: regions::Row, k: regions::Key) -> bool
     ensures { result ≡ true → key_number (row_key_of r) ≡ key_number k }
 {
-    let x = announcing::evict::row_key(r);
+    let x = regions::Key::from(r);
     !regions::key_less(x, k) & !regions::key_less(k, x)
 }
 
@@ -152,7 +152,7 @@ fn is_owner(s: &[u8], k: ident::Key, n: Connection, guess: Option<usize>) -> See
             let key = regions::Key::from(k);
             if has_key(r, key) {
                 return Seen {
-                    owner: r.bits / 8 % 2 == 1,
+                    owner: r.owns(),
                     next: i + 1,
                 };
             }

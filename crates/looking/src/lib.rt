@@ -55,7 +55,7 @@ fn settled(v: Look, clock: u64) -> Option<u64>
 fn with_row(v: Look, clock: u64, r: regions::Row) -> Look
     ensures { (o : Option Owner) (cs : List Candidate) (t : Table) → Looks clock o cs t v → Looks clock (owner_at r o) (candidate_at r ∷ cs) t result }
 {
-    let owns = r.bits / 8 % 2 == 1;
+    let owns = r.owns();
     Look {
         due: if owns { Some(r.deadline) } else { v.due },
         free: earlier(later(clock, r.ready), v.free),

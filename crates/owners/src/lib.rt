@@ -46,9 +46,9 @@ struct Stretch {
 fn named_by(r: regions::Row) -> Option<Owner>
     ensures { Says result (holding_as (key_at r) (owner_at r none)) }
 {
-    if r.bits / 8 % 2 == 1 {
+    if r.owns() {
         return Some(Owner {
-            kind: announcing::evict::key_of(r).kind,
+            kind: r.kind(),
             connection: r.conn,
             deadline: r.deadline,
         });

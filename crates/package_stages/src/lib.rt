@@ -134,7 +134,7 @@ fn owner_in(s: &[u8], from: usize, to: usize) -> Option<Owner>
 {
     for i in from..to {
         let r = store::rows::row_at(s, i);
-        if r.bits / 8 % 2 == 1 {
+        if r.owns() {
             return Some(Owner {
                 connection: r.conn,
                 deadline: r.deadline,

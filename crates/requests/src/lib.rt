@@ -81,7 +81,7 @@ pub fn mark_in(s: &[u8], from: usize, to: usize) -> bool
     requires { Shown s.now × (to ≤ rows_in s.now) }
     ensures { MarkIn s.now from to result }
 {
-    from < to && store::rows::row_at(s, from).bits / 16 % 2 == 1
+    from < to && store::rows::row_at(s, from).is_marked()
 }
 
 // Where the row of a connection stands among those of a key, if it has one there.
@@ -182,21 +182,29 @@ pub fn cut(s: &mut [u8], k: ident::Key, n: u64)
 // ---- a candidate that adopts what another brings
 
 // (`same` is a fact of two kinds, here and below: one bit of the row goes by it, and no step.)
-fn witness_as(same: bool, k: ident::ItemKind, bits: u64) -> u64
-    ensures { (result ≡ witness_as same k bits) × (result ≤ 1) }
+fn witness_as(same: bool, k: ident::ItemKind, r: regions::Row) -> u64
+    ensures { (result ≡ witness_as same k r.bits) × (result ≤ 1) }
 {
-    if same { witness_bit(k) } else { bits / 2 % 2 }
+    if same {
+        witness_bit(k)
+    } else {
+        u64::from(r.is_witness())
+    }
 }
 
 // The smaller ready time and priority, preferred, and the item where the kind is the same.
 fn adopted_row(r: regions::Row, c: Candidate, same: bool) -> regions::Row
     ensures { RowAdopting same c r result }
 {
-    let w = witness_as(same, c.item.kind, r.bits);
+    let w = witness_as(same, c.item.kind, r);
     regions::Row {
         ready: r.ready.min(c.ready),
         prio: r.prio.min(c.priority),
-        bits: r.bits % 2 + 2 * w + 4 + 8 * (r.bits / 8 % 2) + 16 * (r.bits / 16 % 2),
+        bits: u64::from(r.kind())
+            + 2 * w
+            + 4
+            + 8 * u64::from(r.owns())
+            + 16 * u64::from(r.is_marked()),
         ..r
     }
 }
@@ -214,7 +222,7 @@ pub fn adopt(s: &mut [u8], k: ident::Key, c: Candidate, same: bool)
 
 // ---- the owner
 
-// The row of who comes to own its request, and of who ceases to.
+// The row of who comes to own its request, and of who ceases to. (Here the bit is changed, and its number says by how much.)
 fn owned_row(r: regions::Row, deadline: u64) -> regions::Row
     requires { r.bits < 32 }
     ensures { result ≡ with_deadline deadline (with_bits (r.bits + 8) r) }

@@ -19,7 +19,7 @@ fn count_out_rows(s: &mut [u8], from: usize, to: usize)
 {
     for i in from..to {
         let r = store::rows::row_at(s, i);
-        store::counting::count_out(s, r.conn, r.bits / 8 % 2);
+        store::counting::count_out(s, r.conn, u64::from(r.owns()));
     }
 }
 

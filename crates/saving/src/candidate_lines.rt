@@ -12,25 +12,24 @@ ghost use Rattle.saving.specs.Laid.{Lays, farthest, key_room, candidate_room, li
 use crate::fields::{next_bool, next_number, put_hash, put_letter, put_number, put_text};
 
 // The item of a row, behind a comma.
-fn next_item(out: &mut [u8], at: usize, bits: u64, hash: regions::Quad) -> usize
+fn next_item(out: &mut [u8], at: usize, r: regions::Row) -> usize
     requires { at + (1 + key_room) ≤ farthest }
     ensures { (result ≤ at + (1 + key_room)) × Lays out.old out.new at
-        (44 ∷ item_field short (record { kind = item_kind_as (kind_is (bits % 2)) (bits / 2 % 2); hash = quad_number hash })) result }
+        (44 ∷ item_field short (record { kind = item_kind_as (kind_is (r.bits % 2)) (r.bits / 2 % 2); hash = quad_number r.hash })) result }
 {
     let from = put_text(out, at, b",");
-    let e = put_letter(out, from, bits % 2 == 1, bits / 2 % 2 == 1);
-    put_hash(out, e, hash)
+    let e = put_letter(out, from, r.kind() == ident::Kind::Wtxid, r.is_witness());
+    put_hash(out, e, r.hash)
 }
 
 fn put_candidate(out: &mut [u8], at: usize, r: regions::Row) -> usize
     requires { at + candidate_room ≤ farthest }
     ensures { (result ≤ at + candidate_room) × Lays out.old out.new at (line_text (CandidateLine (candidate_at r))) result }
 {
-    let hash = r.hash;
     let e = put_number(out, at, r.conn);
-    let e = next_item(out, e, r.bits, hash);
+    let e = next_item(out, e, r);
     let e = next_number(out, e, r.ready);
-    let e = next_bool(out, e, r.bits / 4 % 2 == 1);
+    let e = next_bool(out, e, r.is_preferred());
     let e = next_number(out, e, r.prio);
     put_text(out, e, b"\n")
 }

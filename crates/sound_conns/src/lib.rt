@@ -170,7 +170,7 @@ fn count_rows(
 {
     for i in 0..rows.count {
         let r = rows.get(i);
-        let own = (r.bits / 8 % 2) as u32;
+        let own = u32::from(r.owns());
         if !take_row(conns, t, guesses, pass, r.conn, own) {
             return false;
         }

@@ -10,6 +10,7 @@ use Rattle.ident.specs.Number.{kind_number, kind_is}
 use Rattle.words.specs.Words.{Decides}
 use Rattle.regions.specs.declared.Row.{Row}
 use Rattle.regions.specs.Rows.{key_number, key_of}
+use Rattle.regions.proofs.Bits.{bit_kind}
 use Rattle.regions.proofs.Order.{Small, by_w3, by_w2, by_w1, by_w0, by_kind, by_hash}
 use Rattle.machine.proofs.Tests.{test}
 use Rattle.store.specs.FlatSound.{mark_bit}
@@ -24,15 +25,6 @@ ahead_other u v b n = elim (test (ltb u v)) [
   | inl e ↦ rw e
   | inr e ↦ rw (e, ne_eqb u v n)
 ]
-
--- the kind of a row, as its bit has it
-bit_kind : (n : ℕ) → kind_number (kind_is (n % 2)) ≡ n % 2
-bit_kind n = go (n % 2) (omega arith)
-  where
-    go : (m : ℕ) → m ≤ 1 → kind_number (kind_is m) ≡ m
-    go zero h = refl
-    go (suc zero) h = refl
-    go (suc (suc m)) h = absurd (omega (arith, h))
 
 same_kind : (m n : ℕ) → m % 2 ≡ n % 2 → kind_number (kind_is (m % 2)) ≡ kind_number (kind_is (n % 2))
 same_kind m n e = ap (λ (x : ℕ). kind_number (kind_is x)) e

@@ -2,7 +2,7 @@
 use Prim.Native.Nat.{ℕ, ◌+◌, ◌*◌, ◌/◌, ◌%◌, ◌<◌}
 use mathlib.Core.Path.{◌≡◌, refl, sym, ◌∙◌}
 use mathlib.Core.Logic.{◌⊎◌, inl, inr}
-use mathlib.Core.Bool.{true, false, not, ◌&&◌, ◌||◌}
+use mathlib.Core.Bool.{Bool, true, false, not, ◌&&◌, ◌||◌}
 use mathlib.Core.List.{List, [], ◌∷◌}
 use native.Mathlib.Nat.{le_refl, le_antisymm, le_of_lt, lt_irrefl, not-le_of_lt}
 use native.Mathlib.Omega.{arith}
@@ -71,7 +71,7 @@ rows-sound r rs = record {
 -- ---- a row by itself, tested without a branch
 
 abbrev Parts : Row → Type 0
-Parts r = (((r.conn ≡ 0 → ⊥) × (r.bits < 32)) × ((r.bits / 8 % 2 ≡ 1) ⊎ (r.deadline ≡ 0))) × ((r.bits % 2 ≡ 0) ⊎ ((r.bits / 2 % 2 ≡ 0) × (r.bits < 16)))
+Parts r = (((r.conn ≡ 0 → ⊥) × (r.bits < 32)) × ((r.bits / 8 % 2 ≡ 1) ⊎ (r.deadline ≡ 0))) × ((r.bits % 2 ≡ 0) ⊎ ((r.bits / 2 % 2 ≡ 1 → ⊥) × (r.bits < 16)))
 
 parts-plain : (r : Row) → Parts r → RowPlain r
 parts-plain r f = record {
@@ -83,7 +83,7 @@ parts-plain r f = record {
   bits = f.0.0.1;
   plain = λ e. elim f.1 [
     | inl o ↦ absurd (omega arith)
-    | inr d ↦ (d.0, omega (arith, d.1))
+    | inr d ↦ (omega (arith, d.0), omega (arith, d.1))
   ];
 }
 
@@ -98,16 +98,16 @@ plain-parts r f = (
   ),
   elim (test (eqb (r.bits % 2) 0)) [
     | inl e ↦ inl (eqb-true (r.bits % 2) 0 e)
-    | inr e ↦ let q = f.plain (omega (arith, eqb-false (r.bits % 2) 0 e)) in inr (q.0, omega (arith, q.1, f.bits))
+    | inr e ↦ let q = f.plain (omega (arith, eqb-false (r.bits % 2) 0 e)) in inr (λ z. absurd (omega (arith, q.0, z)), omega (arith, q.1, f.bits))
   ],
 )
 
-pub row-decides : (r : Row) → Decides (((not (eqb r.conn 0) && ltb r.bits 32) && (eqb (r.bits / 8 % 2) 1 || eqb r.deadline 0)) &&
-    (eqb (r.bits % 2) 0 || (eqb (r.bits / 2 % 2) 0 && ltb r.bits 16))) (RowPlain r)
-row-decides r =
+pub row-decides : (r : Row) {o w t : Bool} → o ≡ eqb (r.bits / 8 % 2) 1 → w ≡ eqb (r.bits / 2 % 2) 1 → t ≡ eqb (r.bits % 2) 0
+    → Decides (((not (eqb r.conn 0) && ltb r.bits 32) && (o || eqb r.deadline 0)) && (t || (not w && ltb r.bits 16))) (RowPlain r)
+row-decides r owns witness txid =
     let t = test_and _ _ (test_and _ _ (test_and _ _ (test_other r.conn 0) (test_less r.bits 32)) (test_or _ _ (test_same (r.bits / 8 % 2) 1) (test_same r.deadline 0)))
-    (test_or _ _ (test_same (r.bits % 2) 0) (test_and _ _ (test_same (r.bits / 2 % 2) 0) (test_less r.bits 16))) in
-    test-decides _ (test_iff t (record { to = parts-plain r; from = plain-parts r }))
+    (test_or _ _ (test_same (r.bits % 2) 0) (test_and _ _ (test_other (r.bits / 2 % 2) 1) (test_less r.bits 16))) in
+    rw (owns, witness, txid) (test-decides _ (test_iff t (record { to = parts-plain r; from = plain-parts r })))
 
 -- the last test of a row behind another: keys that are neither less nor greater are equal
 pub follows-mark : (p r : Row) → ltb (key_number (key_of p)) (key_number (key_of r)) ≡ false → ltb (key_number (key_of r)) (key_number (key_of p)) ≡ false

@@ -8,9 +8,9 @@ ghost use Rattle.sound_rows.specs.Rows.{RowPlain, Follows, is_ahead, RowsSound};
 fn row_fits(r: regions::Row) -> bool
     ensures { Decides result (RowPlain r) }
 {
-    let idle = (r.bits / 8 % 2 == 1) | (r.deadline == 0);
-    let txid = r.bits % 2 == 0;
-    let bare = (r.bits / 2 % 2 == 0) & (r.bits < 16);
+    let idle = r.owns() | (r.deadline == 0);
+    let txid = r.kind() == ident::Kind::Txid;
+    let bare = !r.is_witness() & (r.bits < 16);
     let known = r.bits < 32;
     (r.conn != 0) & known & idle & (txid | bare)
 }
@@ -30,12 +30,12 @@ fn follows(p: regions::Row, r: regions::Row) -> bool
 {
     let x = p.hash;
     let y = r.hash;
-    let mark = p.bits / 16 % 2 == r.bits / 16 % 2;
+    let mark = p.is_marked() == r.is_marked();
     let w0 = ahead(x.w0, y.w0, mark);
     let w1 = ahead(x.w1, y.w1, w0);
     let w2 = ahead(x.w2, y.w2, w1);
     let w3 = ahead(x.w3, y.w3, w2);
-    ahead(p.bits % 2, r.bits % 2, w3)
+    ahead(u64::from(p.kind()), u64::from(r.kind()), w3)
 }
 
 // Whether each row is fit, keys do not fall, and rows of one key have one mark.

@@ -80,7 +80,7 @@ pub fn owners(part: Part) -> u64
     let mut sum = 0;
     for i in part.from..part.to {
         let r = part.rows.get(i);
-        sum += r.bits / 8 % 2;
+        sum += u64::from(r.owns());
     }
     sum
 }

@@ -13,6 +13,7 @@ fn ready_row(r: regions::Row, v: u64) -> regions::Row
     regions::Row { ready: v, ..r }
 }
 
+// (Here the bit is changed, whatever it was.)
 fn marked_row(r: regions::Row) -> regions::Row
     ensures { result ≡ marked_row r }
 {

@@ -39,7 +39,7 @@ pub fn ends_key(s: &[u8], r: regions::Row, j: usize, to: usize) -> bool
         return true;
     }
     let q = store::rows::row_at(s, j);
-    announcing::evict::row_key(r) != announcing::evict::row_key(q)
+    regions::Key::from(r) != regions::Key::from(q)
 }
 
 // Hands out the key of one row.

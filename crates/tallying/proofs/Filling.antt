@@ -9,7 +9,7 @@ use Rattle.regions.specs.declared.Row.{Row}
 use Rattle.regions.specs.declared.Conn.{Conn}
 use Rattle.regions.specs.Regions.{insert_at}
 use Rattle.machine.specs.Typed.{Each}
-use Rattle.store.specs.Flat.{Flat, tally}
+use Rattle.store.specs.Flat.{Flat, own_bit, tally}
 use Rattle.store.specs.Image.{Shows}
 use Rattle.store.specs.Shown.{limit_in, rows_in, conns_in, Light, Shown, with_conns, Turns}
 use Rattle.store.proofs.Frame.{sizes, shown}
@@ -73,9 +73,9 @@ module _ {b₀ b : List ℕ} {n i : ℕ} (k : Shown b₀) (p : Filling b₀ b n 
       let m = many k.flat k.shows in
       (omega (arith, w.conns), omega (arith, w.conns, w.limit, z.rows, p.rows, k.sized.rows_few))
 
-  pub filling_more : {b₁ : List ℕ} {r : Row} → i < n → ((f : Flat) (d : Row) → Shows b f → r ≡ get_or f.rows i d) → Turns b b₁ (λ f. with_conns (insert_at i (entry_of r) f.conns) f)
-      → length b₁ ≡ length b → Filling b₀ b₁ n (i + 1)
-  filling_more {b₁} {r} l g t e = record {
+  pub filling_more : {b₁ : List ℕ} {r : Row} {o : ℕ} → i < n → ((f : Flat) (d : Row) → Shows b f → r ≡ get_or f.rows i d) → o ≡ own_bit r
+      → Turns b b₁ (λ f. with_conns (insert_at i (record { conn = r.conn; held = 1; owned = o }) f.conns) f) → length b₁ ≡ length b → Filling b₀ b₁ n (i + 1)
+  filling_more {b₁} {r} {o} l g own t e = record {
     rows = p.rows;
     most = omega arith;
     size = e ∙ p.size;
@@ -88,7 +88,7 @@ module _ {b₀ b : List ℕ} {n i : ℕ} (k : Shown b₀) (p : Filling b₀ b n 
         let a : map entry_of (take (i + 1) rs) ≡ cs ++ (entry_of r ∷ []) =
         ap (λ (m : ℕ). map entry_of (take m rs)) q ∙ ap (map entry_of) (take-suc rs i r (omega (arith, z.rows, p.rows)) ∙ ap (λ (y : Row). take i rs ++ (y ∷ [])) (sym row))
         ∙ map-append entry_of (take i rs) (r ∷ []) in
-        subst (λ (xs : List Conn). Shows b₁ (with_conns xs f)) (at_end cs i (entry_of r) (many f h) ∙ sym a) (t (with_conns cs f) (p.filled f h));
+        subst (λ (xs : List Conn). Shows b₁ (with_conns xs f)) (at_end cs i (entry_of r) (many f h) ∙ sym a) (rw own at t (with_conns cs f) (p.filled f h));
   }
 
   pub filling_done : i ≡ n → Turns b₀ b (λ f. with_conns (map entry_of f.rows) f)

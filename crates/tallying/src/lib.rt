@@ -25,7 +25,7 @@ fn fill(s: &mut [u8])
         let c = regions::Conn {
             conn: r.conn,
             held: 1,
-            owned: r.bits / 8 % 2,
+            owned: u64::from(r.owns()),
         };
         store::conns::add_conn(s, i, c);
     }

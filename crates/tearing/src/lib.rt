@@ -49,7 +49,7 @@ fn tear_row(s: &mut [u8], m: usize, i: usize, clock: u64, guess: usize) -> Stay
             return Stay { rows: m + 1, at };
         }
     };
-    if r.bits / 8 % 2 == 1 {
+    if r.owns() {
         idle::count_off(s, r.conn, 1);
         return Stay { rows: m, at };
     }

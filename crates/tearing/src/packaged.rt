@@ -97,7 +97,7 @@ pub fn find(s: &[u8], r: regions::Row, guess: usize) -> Result<usize, usize>
     requires { Shown s.now }
     ensures { (st : State) (xs : List Row) (cs : List Conn) → Sound st → Ebbs s.now st xs cs → hash_at r < top → is_ok result ≡ packaged_row st.table r }
 {
-    if r.bits % 2 == 0 {
+    if r.kind() == ident::Kind::Txid {
         return Err(guess);
     }
     let q = r.hash;

@@ -1,9 +1,12 @@
+use Prim.Native.Nat.{◌/◌}
 use borrow.Author.Rules.{rules}
 use native.Mathlib.Omega.{arith}
 use mathlib.Core.Path.{◌≡◌, refl, ◌∙◌}
 use mathlib.Core.Bool.{true, false}
 use borrow.Author.Tests.{not-true, not-false}
 use Rattle.words.specs.Words.{words}
+use Rattle.regions.proofs.Bits.{as_bit}
+use Rattle.store.specs.Flat.{own_bit}
 use Rattle.sound_conns.proofs.Tally.{tallied_none, tallied_turn, tallied_stop}
 use Rattle.sound_conns.proofs.count_rows.Goals as goal
 
@@ -16,7 +19,8 @@ pub returns-then-not-take_row : goal.returns-then-not-take_row
 returns-then-not-take_row c =
     let a = c.args in
     let e : c.take_row.result ≡ false = not-true _ c.if-not-take_row.true-raw in
-    let b = c.take_row.ensures in (
+    let own : c.from-own.result ≡ own_bit c.get-r.result = as_bit (c.get-r.result.bits / 8) c.from-own.ensures c.owns.ensures in
+    let b = rw own at c.take_row.ensures in (
       λ o. tallied_stop a.conns.count (words a.conns.bytes.now) (words a.rows.bytes.now) a.pass.done a.pass.last a.pass.lo c.loop-i.i
           c.loop-i.t c.get-r.result
           c.get-r.ensures.words_are
@@ -28,7 +32,8 @@ pub loop-i-preserved : goal.loop-i-preserved
 loop-i-preserved c =
     let a = c.args in
     let e : c.take_row.result ≡ true = not-false _ c.if-not-take_row.false-raw in
-    let b = c.take_row.ensures in (
+    let own : c.from-own.result ≡ own_bit c.get-r.result = as_bit (c.get-r.result.bits / 8) c.from-own.ensures c.owns.ensures in
+    let b = rw own at c.take_row.ensures in (
       search rules,
       b.1 ∙ c.loop-i.invariant.1,
       tallied_turn a.conns.count (words a.conns.bytes.now) (words a.rows.bytes.now) a.pass.done a.pass.last a.pass.lo c.loop-i.i

@@ -1,4 +1,6 @@
 -- `tallying::fill` meets its contract.
+use Prim.Native.Nat.{◌/◌}
+use Rattle.regions.proofs.Bits.{as_bit}
 use Rattle.tallying.proofs.Filling.{filling_none, filling_shown, filling_row, filling_room, filling_more}
 use Rattle.tallying.proofs.fill.Goals as goal
 
@@ -24,4 +26,5 @@ add_conn-requires c = (
 pub loop-i-preserved : goal.loop-i-preserved
 loop-i-preserved c = filling_more c.requires.0
     c.loop-i.invariant c.loop-i-test.true
-    c.row_at-r.ensures c.add_conn.ensures c.add_conn.auto.s
+    c.row_at-r.ensures (as_bit (c.row_at-r.result.bits / 8) c.from.ensures c.owns.ensures)
+    c.add_conn.ensures c.add_conn.auto.s

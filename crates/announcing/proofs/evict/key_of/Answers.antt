@@ -2,4 +2,4 @@ use Rattle.announcing.proofs.Scanning.{key-read}
 use Rattle.announcing.proofs.evict.key_of.Goals as goal
 
 pub returns : goal.returns
-returns c = key-read c.args.r c.from-2.ensures c.from.ensures
+returns c = key-read c.args.r c.from.ensures c.from-2.ensures

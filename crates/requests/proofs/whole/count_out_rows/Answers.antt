@@ -1,4 +1,6 @@
+use Prim.Native.Nat.{◌/◌}
 use native.Mathlib.Omega.{arith}
+use Rattle.regions.proofs.Bits.{as_bit}
 use Rattle.requests.proofs.Shearing.{none_out, out_shown, out_rows, one_out}
 use mathlib.Core.Path.{◌≡◌, subst}
 use Rattle.requests.specs.Changes.{Shorn}
@@ -22,7 +24,7 @@ count_out-requires c = out_shown c.requires.0 c.loop-i.invariant
 pub loop-i-preserved : goal.loop-i-preserved
 loop-i-preserved c = one_out c.requires.0 c.loop-i.invariant
     c.requires.2 c.loop-i-test.true
-    c.row_at-r.ensures c.count_out.auto.s c.count_out.ensures
+    c.row_at-r.ensures c.count_out.auto.s (rw (as_bit (c.row_at-r.result.bits / 8) c.from.ensures c.owns.ensures) at c.count_out.ensures)
 
 pub shape_of-s : goal.shape_of-s
 shape_of-s c = c.loop-i.invariant.long

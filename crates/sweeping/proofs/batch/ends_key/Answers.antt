@@ -10,4 +10,4 @@ pub returns : goal.returns
 returns c = λ f w.
     let z = sizes w in
     ends-before c.args.r f.rows c.args.j c.args.to c.row_at-q.result (omega arith) (omega (arith, c.requires.2)) (c.row_at-q.ensures f c.row_at-q.result w)
-    c.ne.ensures (same_row_key c.args.r c.row_at-q.result c.row_key.ensures c.row_key-2.ensures (omega arith) (omega arith))
+    c.ne.ensures (same_row_key c.args.r c.row_at-q.result c.from.ensures c.from-2.ensures (omega arith) (omega arith))
