@@ -24,8 +24,8 @@ none = record { hash = record { w0 = 0; w1 = 0; w2 = 0; w3 = 0 }; conn = 0; read
 -- ---- as the code tests
 
 module _ (r : Row) (n : ℕ) (from to : RowKey) where
-  pub its_own : {w : Bool} → r.conn ≡ n → w ≡ row_key_in from to (row_key_of r) → (not (eqb (r.bits / 8 % 2) 1) && w) ≡ row_in n from to r
-  its_own e f = rw (eq-eqb r.conn n e, f)
+  pub its_own : {o w : Bool} → r.conn ≡ n → o ≡ owns r → w ≡ row_key_in from to (row_key_of r) → (not o && w) ≡ row_in n from to r
+  its_own e o f = rw (eq-eqb r.conn n e, o, f)
 
   pub anothers : (r.conn ≡ n → ⊥) → false ≡ row_in n from to r
   anothers e = rw (ne_eqb r.conn n e)

@@ -118,14 +118,6 @@ struct Seen {
     next: usize,
 }
 
-// Whether the row r is one of the key k.
-fn has_key(r: regions::Row, k: regions::Key) -> bool
-    ensures { result ≡ true → key_number (row_key_of r) ≡ key_number k }
-{
-    let x = regions::Key::from(r);
-    !regions::key_less(x, k) & !regions::key_less(k, x)
-}
-
 // Whether the connection n owns the request at k, by a search.
 fn search_owner(s: &[u8], k: ident::Key, n: Connection) -> Seen
     requires { Kept s.now }
@@ -149,8 +141,7 @@ fn is_owner(s: &[u8], k: ident::Key, n: Connection, guess: Option<usize>) -> See
         let i = store::rows::find_row(s, from, rows, n.number);
         if i < rows {
             let r = store::rows::row_at(s, i);
-            let key = regions::Key::from(k);
-            if has_key(r, key) {
+            if regions::Key::from(r) == regions::Key::from(k) {
                 return Seen {
                     owner: r.owns(),
                     next: i + 1,

@@ -1,9 +1,10 @@
 -- A row's bits as its methods give them, and as numbers.
-use Prim.Native.Nat.{ℕ, zero, suc, ◌%◌, ◌<◌}
-use mathlib.Core.Path.{◌≡◌, refl, ap, ◌∙◌}
-use mathlib.Core.Bool.{Bool, beq}
+use Prim.Native.Nat.{ℕ, zero, suc, ◌-◌, ◌%◌, ◌<◌}
+use mathlib.Core.Path.{◌≡◌, refl, sym, ap, ◌∙◌}
+use mathlib.Core.Bool.{Bool, true, false, not, beq}
 use native.Mathlib.Omega.{arith}
 use lib.Dec.{eqb}
+use borrow.Author.Tests.{eqb-true, eqb-false}
 use mir.Val.{bool_byte}
 use Rattle.ident.specs.declared.Kind.TheVariants.{Txid, Wtxid}
 use Rattle.ident.specs.contracts.KindPartialEq.TheImpl.{eq-value}
@@ -58,3 +59,19 @@ same_two m (suc (suc n)) g h = absurd (omega (arith, h))
 
 pub same_bits : (m n : ℕ) → beq (eqb (m % 2) 1) (eqb (n % 2) 1) ≡ eqb (m % 2) (n % 2)
 same_bits m n = same_two (m % 2) (n % 2) (omega arith) (omega arith)
+
+-- what a test that was taken says of its bit
+pub is_one : (n : ℕ) {b : Bool} → b ≡ eqb n 1 → b ≡ true → n ≡ 1
+is_one n e t = eqb-true n 1 (sym e ∙ t)
+
+pub not_one : (n : ℕ) {b : Bool} → b ≡ eqb n 1 → b ≡ false → n ≡ 1 → ⊥
+not_one n e t = eqb-false n 1 (sym e ∙ t)
+
+-- 1 for a bit that is not set
+unset_two : (m : ℕ) → m < 2 → bool_byte (not (eqb m 1)) ≡ 1 - m
+unset_two zero h = refl
+unset_two (suc zero) h = refl
+unset_two (suc (suc m)) h = absurd (omega (arith, h))
+
+pub as_unset : (n : ℕ) {b : Bool} {m : ℕ} → m ≡ bool_byte (not b) → b ≡ eqb (n % 2) 1 → m ≡ 1 - n % 2
+as_unset n e f = e ∙ ap (λ (b : Bool). bool_byte (not b)) f ∙ unset_two (n % 2) (omega arith)

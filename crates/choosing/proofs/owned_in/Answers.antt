@@ -1,7 +1,6 @@
 -- `choosing::owned_in` meets its contract.
-use mathlib.Core.Path.{refl, ◌∙◌}
+use mathlib.Core.Path.{refl, sym, ◌∙◌}
 use native.Mathlib.Omega.{arith}
-use borrow.Author.Tests.{eq-eqb, ne_eqb}
 use Rattle.store.proofs.Frame.{sizes}
 use Rattle.choosing.proofs.Scanned.{owns_none, owns_here, owns-later}
 use Rattle.choosing.proofs.owned_in.Goals as goal
@@ -12,11 +11,11 @@ loop-i-init c = (c.args.x.order, λ f w. refl)
 pub row_at-r-requires : goal.row_at-r-requires
 row_at-r-requires c = (c.requires.0, omega arith)
 
-pub returns-then-r-eq1 : goal.returns-then-r-eq1
-returns-then-r-eq1 c = λ f w.
+pub returns-then-owns : goal.returns-then-owns
+returns-then-owns c = λ f w.
     let z = sizes w in
     owns_here f.rows c.row_at-r.result c.loop-i.i c.args.x.to (omega arith)
-    (omega (arith, c.requires.1)) (c.row_at-r.ensures f c.row_at-r.result w) (eq-eqb _ 1 c.if-r-eq1.true)
+    (omega (arith, c.requires.1)) (c.row_at-r.ensures f c.row_at-r.result w) (sym c.owns.ensures ∙ c.if-owns.true)
     ∙ c.loop-i.invariant.1 f w
 
 pub loop-i-preserved : goal.loop-i-preserved
@@ -25,7 +24,7 @@ loop-i-preserved c = (
   λ f w.
       let z = sizes w in
       owns-later f.rows c.row_at-r.result c.loop-i.i c.args.x.to (omega arith)
-      (omega (arith, c.requires.1)) (c.row_at-r.ensures f c.row_at-r.result w) (ne_eqb _ 1 c.if-r-eq1.false)
+      (omega (arith, c.requires.1)) (c.row_at-r.ensures f c.row_at-r.result w) (sym c.owns.ensures ∙ c.if-owns.false)
       ∙ c.loop-i.invariant.1 f w,
 )
 

@@ -1,5 +1,4 @@
 use mathlib.Core.Path.{ap, ◌∙◌}
-use Rattle.ident.specs.declared.Kind.{Kind}
 use Rattle.cutting.specs.Cuts.{row_key_in}
 use Rattle.cutting.proofs.Testing.{its_own, anothers}
 use Rattle.cutting.proofs.goes.Goals as goal
@@ -7,7 +6,7 @@ use Rattle.cutting.proofs.goes.Goals as goal
 pub returns-then-r-p : goal.returns-then-r-p
 returns-then-r-p c = its_own c.args.r c.args.p.conn
     c.args.p.from c.args.p.to
-    c.if-r-p.true (c.inside-within.ensures ∙ ap (λ (k : Kind). row_key_in c.args.p.from c.args.p.to (record { kind = k; hash = c.args.r.hash })) c.from.ensures)
+    c.if-r-p.true c.owns.ensures (c.inside-within.ensures ∙ ap (row_key_in c.args.p.from c.args.p.to) c.from-k.ensures)
 
 pub returns-else-r-p : goal.returns-else-r-p
 returns-else-r-p c = anothers c.args.r c.args.p.conn c.args.p.from

@@ -1,6 +1,7 @@
 use native.Mathlib.Omega.{arith}
 use mathlib.Core.Path.{sym, ap, ◌∙◌}
 use Rattle.regions.specs.declared.Row.{Row}
+use Rattle.regions.proofs.Bits.{is_one, not_one}
 use Rattle.store.specs.Flat.{own_bit}
 use Rattle.package_stages.proofs.Owners.{unowned_more}
 use Rattle.package_stages.proofs.owner_in.Goals as goal
@@ -11,20 +12,20 @@ loop-i-init c = record { least = omega arith; most = c.requires.1; free = λ f d
 pub row_at-r-requires : goal.row_at-r-requires
 row_at-r-requires c = (c.requires.0, omega (arith, c.loop-i-test.true, c.requires.2))
 
-pub returns-then-r-eq1 : goal.returns-then-r-eq1
-returns-then-r-eq1 c = λ f d h.
+pub returns-then-owns : goal.returns-then-owns
+returns-then-owns c = λ f d h.
     let e = c.row_at-r.ensures f d h in
     record {
       index = c.loop-i.i;
       least = c.loop-i.invariant.least;
       most = c.loop-i-test.true;
-      owns = sym (ap own_bit e) ∙ c.if-r-eq1.true;
+      owns = sym (ap own_bit e) ∙ is_one _ c.owns.ensures c.if-owns.true;
       connection = ap (λ (r : Row). r.conn) e;
       deadline = ap (λ (r : Row). r.deadline) e;
     }
 
 pub loop-i-preserved : goal.loop-i-preserved
-loop-i-preserved c = unowned_more c.loop-i.invariant c.loop-i-test.true c.row_at-r.ensures c.if-r-eq1.false
+loop-i-preserved c = unowned_more c.loop-i.invariant c.loop-i-test.true c.row_at-r.ensures (not_one _ c.owns.ensures c.if-owns.false)
 
 pub returns : goal.returns
 returns c = λ f d h j p q z. c.loop-i.invariant.free f d h j p (omega (arith, c.loop-i-test.false)) z

@@ -1,4 +1,5 @@
 use mathlib.Core.Path.{refl}
+use Rattle.regions.proofs.Bits.{is_one, not_one}
 use Rattle.tearing.proofs.TearingRows.{tear_stays, tear_goes, tear_readies}
 use Rattle.tearing.proofs.tear_row.Goals as goal
 
@@ -8,12 +9,12 @@ returns-in-Err c = tear_stays c.args.clock
     c.args.i
     c.row_at-r.ensures c.in-Err.ensures refl c.keep_row.ensures
 
-pub returns-then-r-eq1 : goal.returns-then-r-eq1
-returns-then-r-eq1 c = tear_goes c.args.clock
+pub returns-then-owns : goal.returns-then-owns
+returns-then-owns c = tear_goes c.args.clock
     c.args.m
     c.args.i
     c.row_at-r.ensures c.in-Ok.ensures refl
-    c.if-r-eq1.true c.count_off.ensures
+    (is_one _ c.owns.ensures c.if-owns.true) c.count_off.ensures
 
 pub returns : goal.returns
 returns c = tear_readies c.args.clock
@@ -21,4 +22,4 @@ returns c = tear_readies c.args.clock
     c.args.i
     c.row_at-r.ensures
     c.in-Ok.ensures refl
-    c.if-r-eq1.false c.ready_row.ensures c.set_row.ensures
+    (not_one _ c.owns.ensures c.if-owns.false) c.ready_row.ensures c.set_row.ensures

@@ -20,6 +20,6 @@ returns c = (
       c.args.r)) (lays_more
       c.put_number-e.ensures.1 (lays_more
       c.next_item-e.ensures.1 (lays_more c.next_number-e.ensures.1 (lays_more
-      c.next_bool-e.ensures.1 (lays_more
+      (rw c.is_preferred.ensures at c.next_bool-e.ensures.1) (lays_more
       c.next_number-e-2.ensures.1 c.put_text.ensures))))),
 )
