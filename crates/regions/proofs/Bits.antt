@@ -6,6 +6,7 @@ use native.Mathlib.Omega.{arith}
 use lib.Dec.{eqb}
 use borrow.Author.Tests.{eqb-true, eqb-false}
 use mir.Val.{bool_byte}
+use Rattle.ident.specs.declared.Kind.{Kind}
 use Rattle.ident.specs.declared.Kind.TheVariants.{Txid, Wtxid}
 use Rattle.ident.specs.contracts.KindPartialEq.TheImpl.{eq-value}
 use Rattle.ident.specs.Number.{kind_number, kind_is}
@@ -75,3 +76,6 @@ unset_two (suc (suc m)) h = absurd (omega (arith, h))
 
 pub as_unset : (n : ℕ) {b : Bool} {m : ℕ} → m ≡ bool_byte (not b) → b ≡ eqb (n % 2) 1 → m ≡ 1 - n % 2
 as_unset n e f = e ∙ ap (λ (b : Bool). bool_byte (not b)) f ∙ unset_two (n % 2) (omega arith)
+
+pub told_txid : (n : ℕ) {k : Kind} {b : Bool} → k ≡ kind_is (n % 2) → b ≡ eq-value.it k Txid → b ≡ eqb (n % 2) 0
+told_txid n {k} {b} e f = f ∙ ap (λ (j : Kind). eq-value.it j Txid) e ∙ is_txid n

@@ -9,3 +9,4 @@ pub mod Less
 pub mod Retaining
 pub mod Hashes
 pub mod Bits
+pub mod Equal

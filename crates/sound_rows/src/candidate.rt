@@ -4,7 +4,8 @@ ghost use Rattle.words.specs.Words.{words, recs, Decides};
 ghost use Rattle.regions.specs.Rows.{row_size, read_row};
 ghost use Rattle.sound_rows.specs.Rows.{RowPlain, Follows, is_ahead, RowsSound};
 
-// Whether a row is fit by itself. (No branch: which of two rows has an owner cannot be foretold.)
+// Whether a row is fit by itself. (No branch: which of two rows has an owner cannot be foretold. Nobody has tested the bits yet, so
+// that their number is looked at too: none is set beyond the five.)
 fn row_fits(r: regions::Row) -> bool
     ensures { Decides result (RowPlain r) }
 {

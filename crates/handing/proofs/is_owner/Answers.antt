@@ -1,6 +1,9 @@
 use native.Mathlib.Omega.{arith}
 use Prim.Native.Nat.{◌<◌}
+use mathlib.Core.Path.{sym, ap, ◌∙◌}
 use lib.ListN.{length}
+use Rattle.regions.specs.Rows.{key_number}
+use Rattle.regions.proofs.Equal.{same_keys}
 use Rattle.store.specs.Flat.{flat_of, rows_of}
 use Rattle.store.proofs.Frame.{sizes}
 use Rattle.requests.proofs.Keeping.{kept_shown}
@@ -16,12 +19,12 @@ find_row-i-requires c = (kept_shown c.requires, omega (arith, c.if-from-rows.tru
 pub row_at-r-requires : goal.row_at-r-requires
 row_at-r-requires c = (kept_shown c.requires, omega (arith, c.rows-rows.ensures.word, c.if-i-rows.true))
 
-pub returns-then-has_key : goal.returns-then-has_key
-returns-then-has_key c = λ st s w.
+pub returns-then-eq : goal.returns-then-eq
+returns-then-eq c = λ st s w.
     let n = c.rows-rows.ensures.field (flat_of st) w in
     let l : c.find_row-i.result < length (rows_of st.table) = omega (arith, c.if-i-rows.true) in
-    row-says st s c.args.n.number
-    c.args.k c.from-key.ensures l
+    c.owns.ensures ∙ row-says st s c.args.n.number
+    c.args.k c.from-then-i-rows.ensures l
     (c.row_at-r.ensures (flat_of st) c.row_at-r.result w)
     ((c.find_row-i.ensures.first (flat_of st) w).found c.if-i-rows.true)
-    (c.has_key.ensures c.if-has_key.true)
+    (ap key_number (sym c.from.ensures ∙ same_keys c.from.result c.from-then-i-rows.result (sym c.eq.ensures ∙ c.if-eq.true)))
