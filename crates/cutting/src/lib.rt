@@ -13,7 +13,7 @@ ghost use Rattle.store.specs.Shown.{Shown, Kept, Tallies};
 ghost use Rattle.requests.specs.Changes.{Makes};
 ghost use Rattle.cutting.specs.Cuts.{between, cuts, row_in, row_key_in, stays, Dropped, lessen};
 
-use regions::ROW;
+use store::layout;
 
 // A connection, and the keys from .. to.
 #[derive(Clone, Copy)]
@@ -51,17 +51,16 @@ fn drop_rows(s: &mut [u8], p: Span) -> usize
     ensures { Dropped (stays p.conn p.from p.to) s.old s.new result }
 {
     let n = store::head::rows(s);
-    let x = store::head::HEAD * 8;
-    let y = (store::head::HEAD + store::head::limit(s) * ROW) * 8;
+    let part = layout::rows_part(s);
     let m = regions::keep::retain::<regions::Row, _>(
-        &mut s[x..y],
+        &mut s[part],
         n,
         |r| -> bool
             requires { length r.now ≡ 8 * row_size }
             ensures { (x : Row) → words r.now ≡ row_words x → result ≡ stays p.conn p.from p.to x }
         { !goes(regions::read::<regions::Row>(r, 0), p) },
     );
-    words::put(s, 3, m as u64);
+    words::put(s, layout::ROWS, m as u64);
     n - m
 }
 

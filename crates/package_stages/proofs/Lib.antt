@@ -1,4 +1,3 @@
-pub mod Lending
 pub mod Read
 pub mod Seeking
 pub mod Owners

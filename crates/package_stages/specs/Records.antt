@@ -1,21 +1,12 @@
--- What the contracts say of places as records: where they lie, what is read of them, how their lists grow.
-use Rattle.std.specs.Prelude.{ℕ, ◌+◌, ◌*◌, ◌≤◌, ◌<◌, ◌≡◌, List, [], ◌∷◌, ◌++◌, map, length, get_or, set}
+-- What the contracts say of places as records: what is read of them, how their lists grow.
+use Rattle.std.specs.Prelude.{ℕ, ◌<◌, ◌≡◌, List, [], ◌∷◌, ◌++◌, map, length, get_or, set}
 use Rattle.regions.specs.declared.Quad.{Quad}
-use Rattle.regions.specs.Rows.{quad_of, row_size, conn_size}
-use Rattle.places.specs.Places.{Place, place_size, with_wtxids}
+use Rattle.regions.specs.Rows.{quad_of}
+use Rattle.places.specs.Places.{Place, with_wtxids}
 use Rattle.store.specs.Flat.{Flat}
-use Rattle.store.specs.Image.{head_size, Shows}
-use Rattle.store.specs.Shown.{limit_in, places_in, held_places_in, Shown, with_places}
-
--- the bytes from .. to are the region of the places
-pub record PartOf (b : List ℕ) (from to : ℕ) : Type 0 where
-  pub from_is : from ≡ (head_size + limit_in b * row_size + limit_in b * conn_size) * 8
-  pub to_is : to ≡ (head_size + limit_in b * row_size + limit_in b * conn_size + places_in b * place_size) * 8
-  pub within : to ≤ length b
-
--- the numbers by which places are searched
-abbrev pub place_hashes : List Place → List ℕ
-place_hashes ps = map (λ p. p.hash) ps
+use Rattle.store.specs.Image.{Shows}
+use Rattle.store.specs.Shown.{held_places_in, Shown, with_places}
+pub use Rattle.store.specs.Shown.{place_hashes}
 
 -- r is the j-th hash of a list of the i-th place
 abbrev pub HashIn : List ℕ → ℕ → (Place → List ℕ) → ℕ → Quad → Type 0

@@ -5,7 +5,7 @@ ghost use Rattle.places.specs.Places.{Place, place_size, place_words};
 ghost use Rattle.store.specs.Shown.{Shown, with_places, Turns};
 ghost use Rattle.package_stages.specs.Dead.{filter, live};
 
-use crate::flat;
+use store::layout;
 
 // Takes every dead place out of the store.
 pub fn drop_dead(s: &mut [u8])
@@ -13,7 +13,7 @@ pub fn drop_dead(s: &mut [u8])
     ensures { Turns s.old s.new (λ f. with_places (filter live f.places) f) }
 {
     let n = store::head::held_places(s);
-    let part = flat::places_part(s);
+    let part = layout::places_part(s);
     let m = regions::keep::retain::<places::Place, _>(
         &mut s[part],
         n,
@@ -22,5 +22,5 @@ pub fn drop_dead(s: &mut [u8])
             ensures { (x : Place) → words p.now ≡ place_words x → result ≡ live x }
         { places::read_head(p, 0).stage > 0 },
     );
-    words::put(s, 5, m as u64);
+    words::put(s, layout::HELD_PLACES, m as u64);
 }

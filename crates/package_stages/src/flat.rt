@@ -5,23 +5,9 @@ ghost use Rattle.lent_lists.specs.Lists.{hashes_in};
 ghost use Rattle.regions.specs.Rows.{quad_number};
 ghost use Rattle.places.specs.Places.{Place, list_most, with_combined, with_wtxids, with_parents};
 ghost use Rattle.store.specs.Shown.{held_places_in, Shown, with_places, Turns, Seek};
-ghost use Rattle.package_stages.specs.Records.{PartOf, place_hashes, HashIn, PushedIn, NoWtxids, ListedIn};
+ghost use Rattle.package_stages.specs.Records.{place_hashes, HashIn, PushedIn, NoWtxids, ListedIn};
 
-use places::PLACE;
-use regions::{CONN, ROW};
-use std::ops::Range;
-
-// The bytes of a store that its places lie in.
-pub fn places_part(s: &[u8]) -> Range<usize>
-    requires { Shown s.now }
-    ensures { PartOf s.now result.start result.end }
-{
-    let l = store::head::limit(s);
-    let q = store::head::places(s);
-    let from = (store::head::HEAD + l * ROW + l * CONN) * 8;
-    let to = (store::head::HEAD + l * ROW + l * CONN + q * PLACE) * 8;
-    from..to
-}
+use store::layout::places_part;
 
 // The first place whose hash is at least h, or how many places there are.
 pub fn seek_place(s: &[u8], h: regions::Quad) -> usize

@@ -9,8 +9,8 @@ ghost use Rattle.store.specs.Shown.{rows_in, row_numbers, Shown, Seek, Kept};
 ghost use Rattle.choosing.specs.Choosing.{WindowAs};
 ghost use Rattle.selecting.specs.Near.{Behind};
 
-use regions::ROW;
 use std::ops::Bound;
+use store::layout;
 
 // The guess, if the row before it falls short; otherwise the first row.
 fn begin_at(s: &[u8], n: usize, start: Bound<regions::Key>, guess: usize) -> usize
@@ -66,9 +66,7 @@ fn seek_near(s: &[u8], start: Bound<regions::Key>, guess: usize) -> usize
     ensures { Seek s.now (λ f. row_numbers f.rows) (rows_in s.now) (start_number start) result }
 {
     let n = store::head::rows(s);
-    let x = store::head::HEAD * 8;
-    let y = (store::head::HEAD + store::head::limit(s) * ROW) * 8;
-    seek_in(&s[x..y], n, start, guess)
+    seek_in(&s[layout::rows_part(s)], n, start, guess)
 }
 
 // Where the rows of the hash h stand under one kind.

@@ -17,8 +17,9 @@ use Rattle.machine.specs.Limits.{need}
 use Rattle.machine.specs.Step.{empty}
 use Rattle.machine.specs.Typed.{Each}
 use Rattle.store.specs.Flat.{Head, Flat, flat_of, tally}
-use Rattle.store.specs.Image.{head_words, words_of, Shows, Writes}
+use Rattle.store.specs.Image.{head_size, head_words, words_of, Shows, Writes}
 use Rattle.store.specs.Shown.{limit_at, places_at, rows_at, conns_at, held_places_at, Sizes, Sized, Light, Shown, with_rows, with_conns, with_places}
+use Rattle.store.specs.Parts.{PartOf, conns_from, places_from, places_to, RowsPart, ConnsPart, PlacesPart}
 use Rattle.store.proofs.HeadWords.{head-length}
 
 -- ---- the whole, with counts that need not be those of the lists
@@ -55,16 +56,20 @@ module _ (h : Head) (n c q v : ℕ) (b : List ℕ) where
 
 -- ---- a part of three that is lent and comes back
 
-module _ (s : List ℕ) (a e : ℕ) (A B C : List ℕ) (q : words s ≡ A ++ (B ++ C)) (la : length A ≡ a) (lb : a + length B ≡ e) (l : 8 * e ≤ length s) where
-  lent_is : words (take (e * 8 - a * 8) (drop (a * 8) s)) ≡ B
+module _ {s : List ℕ} {a e from to : ℕ} (p : PartOf s a e from to) (A B C : List ℕ) (q : words s ≡ A ++ (B ++ C)) (la : length A ≡ a) (lb : a + length B ≡ e) where
+  l : 8 * e ≤ length s
+  l = omega (arith, p)
+
+  lent_is : words (take (to - from) (drop from s)) ≡ B
   lent_is =
       let m : length B ≡ e - a = omega arith in
-      words-lent s a e (omega arith) l ∙ rw (q, drop_at A (B ++ C) a la) (take_at B C (e - a) m)
+      rw (p.from_is, p.to_is) (words-lent s a e (omega arith) l ∙ rw (q, drop_at A (B ++ C) a la) (take_at B C (e - a) m))
 
-  back_is : (p : List ℕ) → length p ≡ length (take (e * 8 - a * 8) (drop (a * 8) s)) → words (take (a * 8) s ++ (p ++ drop (e * 8 - a * 8) (drop (a * 8) s))) ≡ A ++ (words p ++ C)
-  back_is p lp =
+  back_is : (w : List ℕ) → length w ≡ length (take (to - from) (drop from s)) → words (take from s ++ (w ++ drop (to - from) (drop from s))) ≡ A ++ (words w ++ C)
+  back_is w lw =
       let m : length (A ++ B) ≡ e = rw length-append (omega arith) in
-      words_back s p a e (omega arith) l lp ∙ rw (q, take_at A (B ++ C) a la, ← (append_assoc A B C)) (rw (drop_at (A ++ B) C e m))
+      rw (p.from_is, p.to_is) (words_back s w a e (omega arith) l (rw (p.from_is, p.to_is) at lw)
+      ∙ rw (q, take_at A (B ++ C) a la, ← (append_assoc A B C)) (rw (drop_at (A ++ B) C e m)))
 
 -- ---- what bytes show
 
@@ -90,71 +95,73 @@ module _ {b : List ℕ} {f : Flat} (h : Shows b f) where
   abbrev framing : ℕ → ℕ → ℕ → List Row → List Conn → List Place → List ℕ
   framing n c q rs cs ps = framed f.head n c q rs cs ps
 
-  module _ {l : ℕ} (e : l ≡ f.head.limit) where
-    abbrev A : List ℕ
-    A = head_words f.head (length f.rows) (length f.conns) (length f.places)
+  abbrev A : List ℕ
+  A = head_words f.head (length f.rows) (length f.conns) (length f.places)
 
-    la : length A ≡ 24
-    la = head-length f.head (length f.rows) (length f.conns) (length f.places)
+  la : length A ≡ head_size
+  la = head-length f.head (length f.rows) (length f.conns) (length f.places)
 
-    abbrev rs : List ℕ
-    rs = row_part f.head.limit f.rows
+  abbrev rs : List ℕ
+  rs = row_part f.head.limit f.rows
 
-    abbrev cs : List ℕ
-    cs = conn_part f.head.limit f.conns
+  abbrev cs : List ℕ
+  cs = conn_part f.head.limit f.conns
 
-    abbrev ps : List ℕ
-    ps = place_part f.head.places f.places
+  abbrev ps : List ℕ
+  ps = place_part f.head.places f.places
 
-    lr : 24 + length rs ≡ 24 + l * 9
-    lr = rw (length-padded (row_size * f.head.limit) (each row_words f.rows)) (omega arith)
+  lr : head_size + length rs ≡ conns_from b
+  lr = rw (length-padded (row_size * f.head.limit) (each row_words f.rows)) (omega (arith, sizes))
 
-    lc : 24 + l * 9 + length cs ≡ 24 + l * 9 + l * 3
-    lc = rw (length-padded (conn_size * f.head.limit) (each conn_words f.conns)) (omega arith)
+  lc : conns_from b + length cs ≡ places_from b
+  lc = rw (length-padded (conn_size * f.head.limit) (each conn_words f.conns)) (omega (arith, sizes))
 
-    by_conns : words b ≡ (A ++ rs) ++ (cs ++ ps)
-    by_conns = words_framed ∙ sym (append_assoc A rs (cs ++ ps))
+  by_conns : words b ≡ (A ++ rs) ++ (cs ++ ps)
+  by_conns = words_framed ∙ sym (append_assoc A rs (cs ++ ps))
 
-    lar : length (A ++ rs) ≡ 24 + l * 9
-    lar = rw length-append (omega (arith, la, lr))
+  lar : length (A ++ rs) ≡ conns_from b
+  lar = rw length-append (omega (arith, la, lr))
 
-    -- the rows, `s[24 * 8..(24 + l * 9) * 8]`
-    pub rows-lent : Holds row_size row_words f.head.limit f.rows (words (take ((24 + l * 9) * 8 - 24 * 8) (drop (24 * 8) b)))
-    rows-lent = lent_is b 24 (24 + l * 9) A rs (cs ++ ps) words_framed la lr (omega (arith, sizes))
+  by_places : words b ≡ (A ++ (rs ++ cs)) ++ (ps ++ [])
+  by_places = words_framed ∙ rw append-nil (simp append_assoc)
 
-    pub rows_back : (p : List ℕ) (xs : List Row) → length p ≡ length (take ((24 + l * 9) * 8 - 24 * 8) (drop (24 * 8) b)) → Holds row_size row_words f.head.limit xs (words p)
-        → words (take (24 * 8) b ++ (p ++ drop ((24 + l * 9) * 8 - 24 * 8) (drop (24 * 8) b))) ≡ framing (length f.rows) (length f.conns) (length f.places) xs f.conns f.places
-    rows_back p xs lp k = back_is b 24 (24 + l * 9) A rs (cs ++ ps) words_framed la lr (omega (arith, sizes)) p lp ∙ rw k
+  lac : length (A ++ (rs ++ cs)) ≡ places_from b
+  lac = rw (length-append, length-append) (omega (arith, la, lr, lc))
 
-    -- the connections, `s[(24 + l * 9) * 8..(24 + l * 9 + l * 3) * 8]`
-    pub conns-lent : Holds conn_size conn_words f.head.limit f.conns (words (take ((24 + l * 9 + l * 3) * 8 - (24 + l * 9) * 8) (drop ((24 + l * 9) * 8) b)))
-    conns-lent = lent_is b (24 + l * 9) (24 + l * 9 + l * 3) (A ++ rs) cs ps by_conns lar lc (omega (arith, sizes))
+  lp : places_from b + length ps ≡ places_to b
+  lp = rw (length-padded (place_size * f.head.places) (each place_words f.places)) (omega (arith, sizes))
 
-    pub conns_back : (p : List ℕ) (xs : List Conn) → length p ≡ length (take ((24 + l * 9 + l * 3) * 8 - (24 + l * 9) * 8) (drop ((24 + l * 9) * 8) b))
-        → Holds conn_size conn_words f.head.limit xs (words p)
-        → words (take ((24 + l * 9) * 8) b ++ (p ++ drop ((24 + l * 9 + l * 3) * 8 - (24 + l * 9) * 8) (drop ((24 + l * 9) * 8) b))) ≡
-        framing (length f.rows) (length f.conns) (length f.places) f.rows xs f.places
-    conns_back p xs lp k = back_is b (24 + l * 9) (24 + l * 9 + l * 3) (A ++ rs) cs ps by_conns lar lc (omega (arith, sizes)) p lp ∙ rw k (append_assoc A rs (conn_part f.head.limit xs ++ ps))
+  module _ {from to : ℕ} where
+    -- the bytes between, and what stands there afterwards
+    abbrev lent : List ℕ
+    lent = take (to - from) (drop from b)
 
-    -- the places, `s[(24 + l * 9 + l * 3) * 8..(24 + l * 9 + l * 3 + q * 824) * 8]`
-    module _ {q : ℕ} (eq : q ≡ f.head.places) where
-      by_places : words b ≡ (A ++ (rs ++ cs)) ++ (ps ++ [])
-      by_places = words_framed ∙ rw append-nil (simp append_assoc)
+    abbrev replaced : List ℕ → List ℕ
+    replaced w = take from b ++ (w ++ drop (to - from) (drop from b))
 
-      lac : length (A ++ (rs ++ cs)) ≡ 24 + l * 9 + l * 3
-      lac = rw (length-append, length-append) (omega (arith, la, lr, lc))
+    module _ (p : RowsPart b from to) where
+      pub rows-lent : Holds row_size row_words f.head.limit f.rows (words lent)
+      rows-lent = lent_is p A rs (cs ++ ps) words_framed la lr
 
-      lp : 24 + l * 9 + l * 3 + length ps ≡ 24 + l * 9 + l * 3 + q * 824
-      lp = rw (length-padded (place_size * f.head.places) (each place_words f.places)) (omega arith)
+      pub rows_back : (w : List ℕ) (xs : List Row) → length w ≡ length lent → Holds row_size row_words f.head.limit xs (words w)
+          → words (replaced w) ≡ framing (length f.rows) (length f.conns) (length f.places) xs f.conns f.places
+      rows_back w xs l k = back_is p A rs (cs ++ ps) words_framed la lr w l ∙ rw k
 
-      pub places-lent : Holds place_size place_words f.head.places f.places (words (take ((24 + l * 9 + l * 3 + q * 824) * 8 - (24 + l * 9 + l * 3) * 8) (drop ((24 + l * 9 + l * 3) * 8) b)))
-      places-lent = lent_is b (24 + l * 9 + l * 3) (24 + l * 9 + l * 3 + q * 824) (A ++ (rs ++ cs)) ps [] by_places lac lp (omega (arith, sizes))
+    module _ (p : ConnsPart b from to) where
+      pub conns-lent : Holds conn_size conn_words f.head.limit f.conns (words lent)
+      conns-lent = lent_is p (A ++ rs) cs ps by_conns lar lc
 
-      pub places_back : (p : List ℕ) (xs : List Place) → length p ≡ length (take ((24 + l * 9 + l * 3 + q * 824) * 8 - (24 + l * 9 + l * 3) * 8) (drop ((24 + l * 9 + l * 3) * 8) b))
-          → Holds place_size place_words f.head.places xs (words p)
-          → words (take ((24 + l * 9 + l * 3) * 8) b ++ (p ++ drop ((24 + l * 9 + l * 3 + q * 824) * 8 - (24 + l * 9 + l * 3) * 8) (drop ((24 + l * 9 + l * 3) * 8) b))) ≡
-          framing (length f.rows) (length f.conns) (length f.places) f.rows f.conns xs
-      places_back p xs n k = back_is b (24 + l * 9 + l * 3) (24 + l * 9 + l * 3 + q * 824) (A ++ (rs ++ cs)) ps [] by_places lac lp (omega (arith, sizes)) p n ∙ rw (k, append-nil) (simp append_assoc)
+      pub conns_back : (w : List ℕ) (xs : List Conn) → length w ≡ length lent → Holds conn_size conn_words f.head.limit xs (words w)
+          → words (replaced w) ≡ framing (length f.rows) (length f.conns) (length f.places) f.rows xs f.places
+      conns_back w xs l k = back_is p (A ++ rs) cs ps by_conns lar lc w l ∙ rw k (append_assoc A rs (conn_part f.head.limit xs ++ ps))
+
+    module _ (p : PlacesPart b from to) where
+      pub places-lent : Holds place_size place_words f.head.places f.places (words lent)
+      places-lent = lent_is p (A ++ (rs ++ cs)) ps [] by_places lac lp
+
+      pub places_back : (w : List ℕ) (xs : List Place) → length w ≡ length lent → Holds place_size place_words f.head.places xs (words w)
+          → words (replaced w) ≡ framing (length f.rows) (length f.conns) (length f.places) f.rows f.conns xs
+      places_back w xs l k = back_is p (A ++ (rs ++ cs)) ps [] by_places lac lp w l ∙ rw (k, append-nil) (simp append_assoc)
 
   -- ---- and what they show afterwards
 

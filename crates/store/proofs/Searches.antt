@@ -1,7 +1,7 @@
 -- A search in a part that is lent is one of the records that it holds.
 use Prim.Native.Nat.{ℕ, ◌≤◌, ◌<◌}
 use mathlib.Core.Path.{◌≡◌, refl, sym, ap, ◌∙◌}
-use mathlib.Core.List.{List}
+use mathlib.Core.List.{List, map}
 use native.Mathlib.Omega.{arith}
 use lib.ListN.{length, take, get_or}
 use lib.Seq.{get_or-take}
@@ -11,9 +11,12 @@ use Rattle.regions.specs.declared.Row.{Row}
 use Rattle.regions.specs.declared.Conn.{Conn}
 use Rattle.regions.specs.Order.{Sorted, Bound, Sought, First}
 use Rattle.regions.specs.Regions.{Holds}
-use Rattle.regions.specs.Rows.{row_size, row_words, read_row, row_key, row_conn, conn_size, conn_words, conn_key}
+use Rattle.regions.specs.Rows.{quad_number, quad_of, row_size, row_words, read_row, row_key, row_conn, conn_size, conn_words, conn_key}
+use Rattle.regions.proofs.Order.{number_quad}
 use Rattle.regions.proofs.Regions.{column}
-use Rattle.store.specs.Shown.{row_numbers, row_conns, conn_names}
+use Rattle.places.specs.Places.{Place, place_size, place_words, place_key}
+use Rattle.places.proofs.Columns.{place-keys}
+use Rattle.store.specs.Shown.{row_numbers, row_conns, conn_names, place_hashes}
 
 module _ (L : ℕ) {w : List ℕ} where
   module _ (rs : List Row) (l : length rs ≤ L) (h : Holds row_size row_words L rs w) where
@@ -41,3 +44,10 @@ module _ (L : ℕ) {w : List ℕ} where
 
     pub conn_sought : {n x r : ℕ} → n ≡ length cs → Sought (recs conn_size conn_key n w) n x r → Sorted (conn_names cs) → Bound (conn_names cs) x r
     conn_sought e s o = let q = ap (λ j. recs conn_size conn_key j w) e ∙ conn-names in rw q at (s.bound (rw q o))
+
+  module _ (ps : List Place) (l : length ps ≤ L) (h : Holds place_size place_words L ps w) where
+    hashes : map (λ p. quad_number (quad_of p.hash)) ps ≡ place_hashes ps
+    hashes = simp number_quad
+
+    pub place_sought : {n x r : ℕ} → n ≡ length ps → Sought (recs place_size place_key n w) n x r → Sorted (place_hashes ps) → Bound (place_hashes ps) x r
+    place_sought e s o = let q = ap (λ j. recs place_size place_key j w) e ∙ place-keys L ps l h ∙ hashes in rw q at (s.bound (rw q o))

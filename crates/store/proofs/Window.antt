@@ -22,6 +22,7 @@ use Rattle.machine.proofs.Tests.{test}
 use Rattle.machine.proofs.Table.{at_key, lawful_at}
 use Rattle.store.specs.Flat.{row_of, rows_for, rows_of, places_for, places_of}
 use Rattle.store.specs.FlatSound.{Ascending, PlacesAscend}
+use Rattle.store.specs.Shown.{place_hashes}
 use Rattle.store.proofs.Bits.{key_row}
 use Rattle.store.proofs.Keys.{row_number}
 use Rattle.store.proofs.Split.{below, above, above_ordered, below_under, rows_below, rows_above, places_below, places_above, rows_at, places-at}
@@ -91,9 +92,6 @@ module _ (k : Key) (lo : ℕ) (t : Table) (o : Ordered lo t) (s : k.hash < top) 
       (rw (length-map (rows_below k t ++ rows_for (at k t)) (λ r. key_number (key_of r))) at b)
 
 -- ---- places
-
-abbrev pub place_hashes : List Place → List ℕ
-place_hashes ps = map (λ p. p.hash) ps
 
 hashes-ascend : (m : ℕ) (ps : List Place) → PlacesAscend m ps → Ascend m (place_hashes ps)
 hashes-ascend m [] a = tt

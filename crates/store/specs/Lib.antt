@@ -4,5 +4,6 @@ pub mod FlatSound
 pub mod Image
 pub mod Read
 pub mod Shown
+pub mod Parts
 pub mod Counting
 pub mod Stamps

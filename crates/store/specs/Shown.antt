@@ -106,7 +106,7 @@ Turns b b' g = (f : Flat) → Shows b f → Shows b' (g f)
 
 -- ---- searches
 
--- the numbers by which rows are searched, and connections
+-- the numbers by which rows are searched, connections and places
 abbrev pub row_numbers : List Row → List ℕ
 row_numbers rs = map (λ r. key_number (key_of r)) rs
 
@@ -115,6 +115,9 @@ row_conns rs = map (λ r. r.conn) rs
 
 abbrev pub conn_names : List Conn → List ℕ
 conn_names cs = map (λ c. c.conn) cs
+
+abbrev pub place_hashes : List Place → List ℕ
+place_hashes ps = map (λ p. p.hash) ps
 
 -- r is where a search of the keys of bytes stops, which is the place of x if they are in order
 pub record Seek (b : List ℕ) (keys : Flat → List ℕ) (n x r : ℕ) : Type 0 where

@@ -6,18 +6,14 @@ ghost use Rattle.store.specs.Flat.{Flat};
 ghost use Rattle.store.specs.Image.{Shows};
 ghost use Rattle.store.specs.Shown.{limit_in, conns_in, conn_names, Shown, with_conns, Turns, Seek};
 
-use crate::head;
-use regions::{CONN, ROW};
+use crate::{head, layout};
 
 // The i-th entry.
 pub fn conn_at(s: &[u8], i: usize) -> regions::Conn
     requires { Shown s.now × (i < conns_in s.now) }
     ensures { (f : Flat) (d : Conn) → Shows s.now f → result ≡ get_or f.conns i d }
 {
-    let l = head::limit(s);
-    let x = (head::HEAD + l * ROW) * 8;
-    let y = (head::HEAD + l * ROW + l * CONN) * 8;
-    regions::read::<regions::Conn>(&s[x..y], i)
+    regions::read::<regions::Conn>(&s[layout::conns_part(s)], i)
 }
 
 // Stores c as the i-th entry.
@@ -25,10 +21,8 @@ pub fn set_conn(s: &mut [u8], i: usize, c: regions::Conn)
     requires { Shown s.old × (i < conns_in s.old) }
     ensures { Turns s.old s.new (λ f. with_conns (set f.conns i c) f) }
 {
-    let l = head::limit(s);
-    let x = (head::HEAD + l * ROW) * 8;
-    let y = (head::HEAD + l * ROW + l * CONN) * 8;
-    regions::write(&mut s[x..y], i, c);
+    let part = layout::conns_part(s);
+    regions::write(&mut s[part], i, c);
 }
 
 // Puts c in as the i-th entry.
@@ -37,11 +31,9 @@ pub fn add_conn(s: &mut [u8], i: usize, c: regions::Conn)
     ensures { Turns s.old s.new (λ f. with_conns (insert_at i c f.conns) f) }
 {
     let n = head::conns(s);
-    let l = head::limit(s);
-    let x = (head::HEAD + l * ROW) * 8;
-    let y = (head::HEAD + l * ROW + l * CONN) * 8;
-    regions::insert(&mut s[x..y], n, i, c);
-    words::put(s, 4, (n + 1) as u64);
+    let part = layout::conns_part(s);
+    regions::insert(&mut s[part], n, i, c);
+    words::put(s, layout::CONNS, (n + 1) as u64);
 }
 
 // Takes the i-th entry out.
@@ -50,11 +42,9 @@ pub fn drop_conn(s: &mut [u8], i: usize)
     ensures { Turns s.old s.new (λ f. with_conns (remove_at i f.conns) f) }
 {
     let n = head::conns(s);
-    let l = head::limit(s);
-    let x = (head::HEAD + l * ROW) * 8;
-    let y = (head::HEAD + l * ROW + l * CONN) * 8;
-    regions::remove::<regions::Conn>(&mut s[x..y], n, i);
-    words::put(s, 4, (n - 1) as u64);
+    let part = layout::conns_part(s);
+    regions::remove::<regions::Conn>(&mut s[part], n, i);
+    words::put(s, layout::CONNS, (n - 1) as u64);
 }
 
 // The first entry whose connection is at least c, or how many entries there are.
@@ -63,8 +53,5 @@ pub fn seek_conn(s: &[u8], c: u64) -> usize
     ensures { Seek s.now (λ f. conn_names f.conns) (conns_in s.now) c result }
 {
     let n = head::conns(s);
-    let l = head::limit(s);
-    let x = (head::HEAD + l * ROW) * 8;
-    let y = (head::HEAD + l * ROW + l * CONN) * 8;
-    regions::seek_conn(&s[x..y], n, c)
+    regions::seek_conn(&s[layout::conns_part(s)], n, c)
 }

@@ -7,6 +7,7 @@ ghost use Rattle.machine.specs.Step.{empty};
 ghost use Rattle.store.specs.Image.{head_size, Writes};
 ghost use Rattle.store.specs.Shown.{limit_at, places_at, rows_at, conns_at, held_places_at, Field};
 
+use crate::layout;
 use machine::limits::MAX_ALTERNATES;
 
 // Words of the header.
@@ -17,7 +18,7 @@ pub fn limit(s: &[u8]) -> usize
     requires { 8 * head_size ≤ length s.now }
     ensures { Field s.now limit_at (λ f. f.head.limit) result }
 {
-    words::get(s, 1) as usize
+    words::get(s, layout::LIMIT) as usize
 }
 
 // A, as many candidates a hash may have. It is 8 in every store, so that no word of the header writes it.
@@ -33,7 +34,7 @@ pub fn places(s: &[u8]) -> usize
     requires { 8 * head_size ≤ length s.now }
     ensures { Field s.now places_at (λ f. f.head.places) result }
 {
-    words::get(s, 2) as usize
+    words::get(s, layout::PLACES) as usize
 }
 
 // How many rows are in use.
@@ -41,7 +42,7 @@ pub fn rows(s: &[u8]) -> usize
     requires { 8 * head_size ≤ length s.now }
     ensures { Field s.now rows_at (λ f. length f.rows) result }
 {
-    words::get(s, 3) as usize
+    words::get(s, layout::ROWS) as usize
 }
 
 // How many connections are in use.
@@ -49,7 +50,7 @@ pub fn conns(s: &[u8]) -> usize
     requires { 8 * head_size ≤ length s.now }
     ensures { Field s.now conns_at (λ f. length f.conns) result }
 {
-    words::get(s, 4) as usize
+    words::get(s, layout::CONNS) as usize
 }
 
 // How many package places are in use.
@@ -57,7 +58,7 @@ pub fn held_places(s: &[u8]) -> usize
     requires { 8 * head_size ≤ length s.now }
     ensures { Field s.now held_places_at (λ f. length f.places) result }
 {
-    words::get(s, 5) as usize
+    words::get(s, layout::HELD_PLACES) as usize
 }
 
 // Makes any bytes of the need for L and Q those of an empty tracker.
@@ -66,7 +67,7 @@ pub fn fill(s: &mut [u8], l: usize, q: usize)
     ensures { Writes s.new (empty l q) }
 {
     words::clear(s, 0, s.len() / 8);
-    words::put(s, 0, 1);
-    words::put(s, 1, l as u64);
-    words::put(s, 2, q as u64);
+    words::put(s, layout::FORMAT, 1);
+    words::put(s, layout::LIMIT, l as u64);
+    words::put(s, layout::PLACES, q as u64);
 }

@@ -11,6 +11,7 @@
 pub mod conns;
 pub mod counting;
 pub mod head;
+pub mod layout;
 pub mod package_places;
 pub mod rows;
 pub mod stamps;

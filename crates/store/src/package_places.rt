@@ -7,20 +7,14 @@ ghost use Rattle.store.specs.Flat.{Flat};
 ghost use Rattle.store.specs.Image.{Shows};
 ghost use Rattle.store.specs.Shown.{places_in, held_places_in, Shown, with_places, Turns};
 
-use crate::head;
-use places::PLACE;
-use regions::{CONN, ROW};
+use crate::{head, layout};
 
 // What the i-th place has beside its lists.
 pub fn place_at(s: &[u8], i: usize) -> places::Head
     requires { Shown s.now × (i < held_places_in s.now) }
     ensures { (f : Flat) (d : Place) → Shows s.now f → result ≡ head_of (get_or f.places i d) }
 {
-    let l = head::limit(s);
-    let q = head::places(s);
-    let x = (head::HEAD + l * ROW + l * CONN) * 8;
-    let y = (head::HEAD + l * ROW + l * CONN + q * PLACE) * 8;
-    places::read_head(&s[x..y], i)
+    places::read_head(&s[layout::places_part(s)], i)
 }
 
 // Opens a place for the hash h as the i-th, with neither package nor parents. (The stage is any word: a type of stages would ask more.)
@@ -29,12 +23,9 @@ pub fn open_place(s: &mut [u8], i: usize, h: regions::Quad, stage: u64)
     ensures { Turns s.old s.new (λ f. with_places (insert_at i (blank (quad_number h) stage) f.places) f) }
 {
     let n = head::held_places(s);
-    let l = head::limit(s);
-    let q = head::places(s);
-    let x = (head::HEAD + l * ROW + l * CONN) * 8;
-    let y = (head::HEAD + l * ROW + l * CONN + q * PLACE) * 8;
-    places::insert_place(&mut s[x..y], n, i, h, stage);
-    words::put(s, 5, (n + 1) as u64);
+    let part = layout::places_part(s);
+    places::insert_place(&mut s[part], n, i, h, stage);
+    words::put(s, layout::HELD_PLACES, (n + 1) as u64);
 }
 
 // Closes the i-th place.
@@ -43,12 +34,9 @@ pub fn close_place(s: &mut [u8], i: usize)
     ensures { Turns s.old s.new (λ f. with_places (remove_at i f.places) f) }
 {
     let n = head::held_places(s);
-    let l = head::limit(s);
-    let q = head::places(s);
-    let x = (head::HEAD + l * ROW + l * CONN) * 8;
-    let y = (head::HEAD + l * ROW + l * CONN + q * PLACE) * 8;
-    regions::remove::<places::Place>(&mut s[x..y], n, i);
-    words::put(s, 5, (n - 1) as u64);
+    let part = layout::places_part(s);
+    regions::remove::<places::Place>(&mut s[part], n, i);
+    words::put(s, layout::HELD_PLACES, (n - 1) as u64);
 }
 
 // Stores the i-th place's stage, any word.
@@ -56,9 +44,6 @@ pub fn set_stage(s: &mut [u8], i: usize, v: u64)
     requires { Shown s.old × (i < held_places_in s.old) }
     ensures { (d : Place) → Turns s.old s.new (λ f. with_places (set f.places i (with_stage v (get_or f.places i d))) f) }
 {
-    let l = head::limit(s);
-    let q = head::places(s);
-    let x = (head::HEAD + l * ROW + l * CONN) * 8;
-    let y = (head::HEAD + l * ROW + l * CONN + q * PLACE) * 8;
-    places::set_stage(&mut s[x..y], i, v);
+    let part = layout::places_part(s);
+    places::set_stage(&mut s[part], i, v);
 }

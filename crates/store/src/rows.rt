@@ -7,8 +7,7 @@ ghost use Rattle.store.specs.Flat.{Flat};
 ghost use Rattle.store.specs.Image.{Shows};
 ghost use Rattle.store.specs.Shown.{limit_in, rows_in, row_numbers, Shown, with_rows, Turns, Seek, Met};
 
-use crate::head;
-use regions::ROW;
+use crate::{head, layout};
 use std::ops::Bound;
 
 // The i-th row.
@@ -16,9 +15,7 @@ pub fn row_at(s: &[u8], i: usize) -> regions::Row
     requires { Shown s.now × (i < rows_in s.now) }
     ensures { (f : Flat) (d : Row) → Shows s.now f → result ≡ get_or f.rows i d }
 {
-    let x = head::HEAD * 8;
-    let y = (head::HEAD + head::limit(s) * ROW) * 8;
-    regions::read::<regions::Row>(&s[x..y], i)
+    regions::read::<regions::Row>(&s[layout::rows_part(s)], i)
 }
 
 // Stores r as the i-th row.
@@ -26,9 +23,8 @@ pub fn set_row(s: &mut [u8], i: usize, r: regions::Row)
     requires { Shown s.old × (i < rows_in s.old) }
     ensures { Turns s.old s.new (λ f. with_rows (set f.rows i r) f) }
 {
-    let x = head::HEAD * 8;
-    let y = (head::HEAD + head::limit(s) * ROW) * 8;
-    regions::write(&mut s[x..y], i, r);
+    let part = layout::rows_part(s);
+    regions::write(&mut s[part], i, r);
 }
 
 // Puts r in as the i-th row.
@@ -37,10 +33,9 @@ pub fn add_row(s: &mut [u8], i: usize, r: regions::Row)
     ensures { Turns s.old s.new (λ f. with_rows (insert_at i r f.rows) f) }
 {
     let n = head::rows(s);
-    let x = head::HEAD * 8;
-    let y = (head::HEAD + head::limit(s) * ROW) * 8;
-    regions::insert(&mut s[x..y], n, i, r);
-    words::put(s, 3, (n + 1) as u64);
+    let part = layout::rows_part(s);
+    regions::insert(&mut s[part], n, i, r);
+    words::put(s, layout::ROWS, (n + 1) as u64);
 }
 
 // Takes the i-th row out.
@@ -49,10 +44,9 @@ pub fn drop_row(s: &mut [u8], i: usize)
     ensures { Turns s.old s.new (λ f. with_rows (remove_at i f.rows) f) }
 {
     let n = head::rows(s);
-    let x = head::HEAD * 8;
-    let y = (head::HEAD + head::limit(s) * ROW) * 8;
-    regions::remove::<regions::Row>(&mut s[x..y], n, i);
-    words::put(s, 3, (n - 1) as u64);
+    let part = layout::rows_part(s);
+    regions::remove::<regions::Row>(&mut s[part], n, i);
+    words::put(s, layout::ROWS, (n - 1) as u64);
 }
 
 // Takes the rows from .. to out.
@@ -61,10 +55,9 @@ pub fn drop_rows(s: &mut [u8], from: usize, to: usize)
     ensures { Turns s.old s.new (λ f. with_rows (remove_range from to f.rows) f) }
 {
     let n = head::rows(s);
-    let x = head::HEAD * 8;
-    let y = (head::HEAD + head::limit(s) * ROW) * 8;
-    regions::ranges::remove_rows(&mut s[x..y], n, from, to);
-    words::put(s, 3, (n - (to - from)) as u64);
+    let part = layout::rows_part(s);
+    regions::ranges::remove_rows(&mut s[part], n, from, to);
+    words::put(s, layout::ROWS, (n - (to - from)) as u64);
 }
 
 // The first row whose key does not stand before `start`, or how many rows there are.
@@ -73,9 +66,7 @@ pub fn seek_row(s: &[u8], start: Bound<regions::Key>) -> usize
     ensures { Seek s.now (λ f. row_numbers f.rows) (rows_in s.now) (start_number start) result }
 {
     let n = head::rows(s);
-    let x = head::HEAD * 8;
-    let y = (head::HEAD + head::limit(s) * ROW) * 8;
-    regions::seek_row(&s[x..y], n, start)
+    regions::seek_row(&s[layout::rows_part(s)], n, start)
 }
 
 // The first of the rows from .. to whose connection is c, or `to`.
@@ -83,7 +74,5 @@ pub fn find_row(s: &[u8], from: usize, to: usize, c: u64) -> usize
     requires { Shown s.now × (from ≤ to) × (to ≤ rows_in s.now) }
     ensures { Met s.now from to c result }
 {
-    let x = head::HEAD * 8;
-    let y = (head::HEAD + head::limit(s) * ROW) * 8;
-    regions::find_conn_in(&s[x..y], from, to, c)
+    regions::find_conn_in(&s[layout::rows_part(s)], from, to, c)
 }

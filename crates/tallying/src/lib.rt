@@ -12,7 +12,7 @@ ghost use Rattle.store.specs.Flat.{tally};
 ghost use Rattle.store.specs.Shown.{conns_in, Shown, with_conns, Turns};
 ghost use Rattle.tallying.specs.Entries.{entry_of, counted};
 
-use regions::{CONN, ROW};
+use store::layout;
 
 // An entry for each row, in the order of the rows.
 fn fill(s: &mut [u8])
@@ -37,11 +37,9 @@ fn settle_conns(s: &mut [u8])
     ensures { Turns s.old s.new (λ f. with_conns (counted [] f.conns) f) }
 {
     let n = store::head::conns(s);
-    let l = store::head::limit(s);
-    let x = (store::head::HEAD + l * ROW) * 8;
-    let y = (store::head::HEAD + l * ROW + l * CONN) * 8;
-    let m = counts::settle(&mut s[x..y], n);
-    words::put(s, 4, m as u64);
+    let part = layout::conns_part(s);
+    let m = counts::settle(&mut s[part], n);
+    words::put(s, layout::CONNS, m as u64);
 }
 
 // The connections of all rows, counted.

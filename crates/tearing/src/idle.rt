@@ -8,7 +8,7 @@ ghost use Rattle.store.specs.Shown.{Shown, with_conns, Turns, Tallies};
 ghost use Rattle.package_stages.specs.Dead.{filter};
 ghost use Rattle.tearing.specs.Idle.{busy, ebbed};
 
-use regions::{CONN, ROW};
+use store::layout;
 
 // One row less of the connection x, whose bit of owning was o. Its entry stays.
 pub fn count_off(s: &mut [u8], x: u64, o: u64)
@@ -33,16 +33,14 @@ pub fn drop_idle(s: &mut [u8])
     ensures { Turns s.old s.new (λ f. with_conns (filter busy f.conns) f) }
 {
     let n = store::head::conns(s);
-    let l = store::head::limit(s);
-    let x = (store::head::HEAD + l * ROW) * 8;
-    let y = (store::head::HEAD + l * ROW + l * CONN) * 8;
+    let part = layout::conns_part(s);
     let m = regions::keep::retain::<regions::Conn, _>(
-        &mut s[x..y],
+        &mut s[part],
         n,
         |c| -> bool
             requires { length c.now ≡ 8 * conn_size }
             ensures { (x : Conn) → words c.now ≡ conn_words x → result ≡ busy x }
         { regions::read::<regions::Conn>(c, 0).held > 0 },
     );
-    words::put(s, 4, m as u64);
+    words::put(s, layout::CONNS, m as u64);
 }

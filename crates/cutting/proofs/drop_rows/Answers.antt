@@ -13,14 +13,13 @@ returns c =
       gone = λ f h.
           let n = c.rows-n.ensures.field f h in
           let m = c.retain-m.ensures.count q (λ x u b e p. p x e) f.head.limit f.rows (sym n)
-          (rows-lent h (c.limit.ensures.field f h)) in
+          (rows-lent h c.rows_part-part.ensures) in
           omega (arith, c.retain-m.ensures.most);
       rows = λ f h.
-          let lim = c.limit.ensures.field f h in
           let n = c.rows-n.ensures.field f h in
-          let held = rows-lent h lim in
+          let held = rows-lent h c.rows_part-part.ensures in
           let m = c.retain-m.ensures.count q (λ x u b e p. p x e) f.head.limit f.rows (sym n) held in
           rows-counted h (search rules) (filter q f.rows) c.retain-m.result
-          (sym m) (rows_back h lim _ _ c.retain-m.auto.s
+          (sym m) (rows_back h c.rows_part-part.ensures _ _ c.retain-m.auto.s
           (c.retain-m.ensures.region q (λ x u b e p. p x e) f.head.limit f.rows (sym n) held)) c.put.ensures.word;
     }

@@ -19,15 +19,13 @@ settle-m-requires c = (
           c.requires.shows,
       c.requires.sized.conns_few,
     );
-    holds = conns-lent c.requires.shows (c.limit-l.ensures.field c.requires.flat
-        c.requires.shows);
+    holds = conns-lent c.requires.shows c.conns_part-part.ensures;
   },
 )
 
 pub returns : goal.returns
 returns c = λ f h.
     let z = sizes h in
-    let lim = c.limit-l.ensures.field f h in
     let n = c.conns-n.ensures.field f h in
     let a = c.settle-m.ensures.all f.head.limit f.conns (sym n) (omega (
       arith,
@@ -36,5 +34,5 @@ returns c = λ f h.
       c.requires.sized.conns_few,
       c.requires.sizes.conns,
       c.requires.sizes.limit,
-    )) (conns-lent h lim) in
-    conns-counted h (search rules) _ _ a.1 (conns_back h lim _ _ c.settle-m.auto.r a.0) c.put.ensures.word
+    )) (conns-lent h c.conns_part-part.ensures) in
+    conns-counted h (search rules) _ _ a.1 (conns_back h c.conns_part-part.ensures _ _ c.settle-m.auto.r a.0) c.put.ensures.word

@@ -1,8 +1,7 @@
 use native.Mathlib.Omega.{arith}
 use Prim.Native.Nat.{◌<◌}
 use lib.ListN.{length, length-set}
-use Rattle.store.proofs.Frame.{sizes, places_same}
-use Rattle.package_stages.proofs.Lending.{lent, came_back}
+use Rattle.store.proofs.Frame.{sizes, places-lent, places_back, places_same}
 use borrow.Author.Rules.{rules}
 use Rattle.package_stages.proofs.flat.push_wtxid.Goals as goal
 
@@ -10,6 +9,6 @@ pub returns : goal.returns
 returns c = λ f d e h.
     let z = sizes h in
     let i : c.args.i < length f.places = omega (arith, c.requires) in
-    let held = c.push_wtxid.ensures.region f.head.places f.places d i e (lent h c.places_part-part.ensures) in
+    let held = c.push_wtxid.ensures.region f.head.places f.places d i e (places-lent h c.places_part-part.ensures) in
     places_same h (search rules) _ (length-set f.places c.args.i _)
-    (came_back h c.places_part-part.ensures _ _ c.push_wtxid.auto.s held)
+    (places_back h c.places_part-part.ensures _ _ c.push_wtxid.auto.s held)

@@ -12,5 +12,5 @@ returns c = record {
   bound = λ f h.
       let z = sizes h in
       let few : length f.rows ≤ f.head.limit = omega (arith, c.requires) in
-      row_sought f.head.limit f.rows few (rows-lent h (c.limit.ensures.field f h)) (c.rows-n.ensures.field f h) c.seek_in.ensures;
+      row_sought f.head.limit f.rows few (rows-lent h c.rows_part.ensures) (c.rows-n.ensures.field f h) c.seek_in.ensures;
 }

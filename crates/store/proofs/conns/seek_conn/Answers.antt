@@ -11,5 +11,5 @@ returns c = record {
   bound = λ f h.
       let z = sizes h in
       let few : length f.conns ≤ f.head.limit = omega (arith, c.requires) in
-      conn_sought f.head.limit f.conns few (conns-lent h (c.limit-l.ensures.field f h)) (c.conns-n.ensures.field f h) c.seek_conn.ensures;
+      conn_sought f.head.limit f.conns few (conns-lent h c.conns_part.ensures) (c.conns-n.ensures.field f h) c.seek_conn.ensures;
 }

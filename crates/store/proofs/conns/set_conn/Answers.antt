@@ -8,9 +8,8 @@ use Rattle.store.proofs.conns.set_conn.Goals as goal
 pub returns : goal.returns
 returns c = λ f h.
     let z = sizes h in
-    let lim = c.limit-l.ensures.field f h in
     let i : c.args.i < length f.conns = omega (arith, c.requires) in
-    let held = c.write.ensures.region f.head.limit f.conns i (conns-lent h lim) in
+    let held = c.write.ensures.region f.head.limit f.conns i (conns-lent h c.conns_part-part.ensures) in
     conns_same h (search rules) (set f.conns c.args.i c.args.c)
     (length-set f.conns c.args.i c.args.c)
-    (conns_back h lim _ _ c.write.auto.s held)
+    (conns_back h c.conns_part-part.ensures _ _ c.write.auto.s held)

@@ -10,13 +10,11 @@ use Rattle.store.proofs.package_places.close_place.Goals as goal
 pub returns : goal.returns
 returns c = λ f h.
     let z = sizes h in
-    let lim = c.limit-l.ensures.field f h in
-    let room = c.places-q.ensures.field f h in
     let n = c.held_places-n.ensures.field f h in
     let i : c.args.i < length f.places =
     omega (arith, c.requires) in
-    let held = c.remove.ensures.region f.head.places f.places (sym n) (places-lent h lim room) in
+    let held = c.remove.ensures.region f.head.places f.places (sym n) (places-lent h c.places_part-part.ensures) in
     let m : length (remove_at c.args.i f.places) ≡
     c.held_places-n.result - 1 = length_remove f.places
     c.args.i i ∙ ap (λ j. j - 1) (sym n) in
-    places-counted h (search rules) _ _ m (places_back h lim room _ _ c.remove.auto.s held) c.put.ensures.word
+    places-counted h (search rules) _ _ m (places_back h c.places_part-part.ensures _ _ c.remove.auto.s held) c.put.ensures.word

@@ -12,15 +12,13 @@ use Rattle.store.proofs.package_places.open_place.Goals as goal
 pub returns : goal.returns
 returns c = λ f h.
     let z = sizes h in
-    let lim = c.limit-l.ensures.field f h in
-    let room = c.places-q.ensures.field f h in
     let n = c.held_places-n.ensures.field f h in
     let i : c.args.i ≤ length f.places =
     omega (arith, c.requires) in
     let x = blank (quad_number c.args.h)
     c.args.stage in
-    let held = c.insert_place.ensures.region f.head.places f.places (sym n) (places-lent h lim room) in
+    let held = c.insert_place.ensures.region f.head.places f.places (sym n) (places-lent h c.places_part-part.ensures) in
     let m : length (insert_at c.args.i x f.places) ≡
     c.held_places-n.result + 1 = length-insert f.places
     c.args.i x i ∙ ap (λ j. j + 1) (sym n) in
-    places-counted h (search rules) _ _ m (places_back h lim room _ _ c.insert_place.auto.s held) c.put.ensures.word
+    places-counted h (search rules) _ _ m (places_back h c.places_part-part.ensures _ _ c.insert_place.auto.s held) c.put.ensures.word

@@ -5,6 +5,4 @@ use Rattle.store.proofs.package_places.place_at.Goals as goal
 pub returns : goal.returns
 returns c = λ f d h.
     let z = sizes h in
-    let lim = c.limit-l.ensures.field f h in
-    let room = c.places-q.ensures.field f h in
-    c.read_head.ensures.region f.head.places f.places d (omega (arith, c.requires)) (places-lent h lim room)
+    c.read_head.ensures.region f.head.places f.places d (omega (arith, c.requires)) (places-lent h c.places_part.ensures)

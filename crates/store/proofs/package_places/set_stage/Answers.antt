@@ -8,10 +8,8 @@ use Rattle.store.proofs.package_places.set_stage.Goals as goal
 pub returns : goal.returns
 returns c = λ d f h.
     let z = sizes h in
-    let lim = c.limit-l.ensures.field f h in
-    let room = c.places-q.ensures.field f h in
     let i : c.args.i < length f.places =
     omega (arith, c.requires) in
-    let held = c.set_stage.ensures.region f.head.places f.places d i (places-lent h lim room) in
+    let held = c.set_stage.ensures.region f.head.places f.places d i (places-lent h c.places_part-part.ensures) in
     places_same h (search rules) _ (length-set f.places c.args.i _)
-    (places_back h lim room _ _ c.set_stage.auto.s held)
+    (places_back h c.places_part-part.ensures _ _ c.set_stage.auto.s held)

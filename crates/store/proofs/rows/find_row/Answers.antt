@@ -12,5 +12,5 @@ returns c = record {
   first = λ f h.
       let z = sizes h in
       let few : length f.rows ≤ f.head.limit = omega (arith, c.requires) in
-      row-met f.head.limit f.rows few (rows-lent h (c.limit.ensures.field f h)) (omega (arith, c.requires)) c.find_conn_in.ensures;
+      row-met f.head.limit f.rows few (rows-lent h c.rows_part.ensures) (omega (arith, c.requires)) c.find_conn_in.ensures;
 }

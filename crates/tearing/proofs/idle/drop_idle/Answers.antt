@@ -8,10 +8,9 @@ use Rattle.tearing.proofs.idle.drop_idle.Goals as goal
 
 pub returns : goal.returns
 returns c = λ f h.
-    let lim = c.limit-l.ensures.field f h in
     let n = sym (c.conns-n.ensures.field f h) in
-    let held = conns-lent h lim in
+    let held = conns-lent h c.conns_part-part.ensures in
     let m = c.retain-m.ensures.count busy (λ x u b e p. p x e) f.head.limit f.conns n held in
-    conns-counted h (search rules) (filter busy f.conns) c.retain-m.result (sym m) (conns_back h lim _ _
+    conns-counted h (search rules) (filter busy f.conns) c.retain-m.result (sym m) (conns_back h c.conns_part-part.ensures _ _
     c.retain-m.auto.s (c.retain-m.ensures.region busy (λ x u b e p. p x e) f.head.limit f.conns n held))
     c.put.ensures.word

@@ -1,0 +1,56 @@
+// Where the counts stand in the header of a store, and where behind it its rows, connections and places lie (docs/STORE.md). A part is a range and no slice:
+// some calls lend it to be read, others to be written.
+ghost use Rattle.store.specs.Shown.{Shown};
+ghost use Rattle.store.specs.Parts.{RowsPart, ConnsPart, PlacesPart};
+
+use crate::head;
+use places::PLACE;
+use regions::{CONN, ROW};
+use std::ops::Range;
+
+// Words of the header: the format; L and Q; how many rows, connections and places are in use.
+pub const FORMAT: usize = 0;
+
+pub const LIMIT: usize = 1;
+
+pub const PLACES: usize = 2;
+
+pub const ROWS: usize = 3;
+
+pub const CONNS: usize = 4;
+
+pub const HELD_PLACES: usize = 5;
+
+// The bytes of the rows.
+pub fn rows_part(s: &[u8]) -> Range<usize>
+    requires { Shown s.now }
+    ensures { RowsPart s.now result.start result.end }
+{
+    let l = head::limit(s);
+    let from = head::HEAD * 8;
+    let to = (head::HEAD + l * ROW) * 8;
+    from..to
+}
+
+// The bytes of the connections.
+pub fn conns_part(s: &[u8]) -> Range<usize>
+    requires { Shown s.now }
+    ensures { ConnsPart s.now result.start result.end }
+{
+    let l = head::limit(s);
+    let from = (head::HEAD + l * ROW) * 8;
+    let to = (head::HEAD + l * ROW + l * CONN) * 8;
+    from..to
+}
+
+// The bytes of the places.
+pub fn places_part(s: &[u8]) -> Range<usize>
+    requires { Shown s.now }
+    ensures { PlacesPart s.now result.start result.end }
+{
+    let l = head::limit(s);
+    let q = head::places(s);
+    let from = (head::HEAD + l * ROW + l * CONN) * 8;
+    let to = (head::HEAD + l * ROW + l * CONN + q * PLACE) * 8;
+    from..to
+}
