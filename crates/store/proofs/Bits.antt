@@ -13,7 +13,7 @@ use Rattle.ident.specs.declared.ItemKind.{ItemKind}
 use Rattle.ident.specs.declared.ItemKind.TheVariants.{Transaction, WitnessTransaction, WTx, Other}
 use Rattle.std.specs.Prelude.{if◌then◌else◌}
 use Rattle.ident.proofs.KindNumbers.{kind_most, kind_back}
-use Rattle.ident.specs.Number.{Key, Item, key_of, kind_is, kind_number}
+use Rattle.ident.specs.Number.{Key, Item, key_of, kind_number}
 use Rattle.machine.specs.State.{Candidate, Owner, Request, owner_is}
 use Rattle.machine.specs.Table.{one}
 use Rattle.machine.proofs.Tests.{test}

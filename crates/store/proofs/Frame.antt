@@ -56,16 +56,23 @@ module _ (h : Head) (n c q v : ℕ) (b : List ℕ) where
 
 -- ---- a part of three that is lent and comes back
 
+-- the bytes from .. to, and all bytes with w there
+abbrev pub lent : List ℕ → ℕ → ℕ → List ℕ
+lent s from to = take (to - from) (drop from s)
+
+abbrev pub replaced : List ℕ → ℕ → ℕ → List ℕ → List ℕ
+replaced s from to w = take from s ++ (w ++ drop (to - from) (drop from s))
+
 module _ {s : List ℕ} {a e from to : ℕ} (p : PartOf s a e from to) (A B C : List ℕ) (q : words s ≡ A ++ (B ++ C)) (la : length A ≡ a) (lb : a + length B ≡ e) where
   l : 8 * e ≤ length s
   l = omega (arith, p)
 
-  lent_is : words (take (to - from) (drop from s)) ≡ B
+  lent_is : words (lent s from to) ≡ B
   lent_is =
       let m : length B ≡ e - a = omega arith in
       rw (p.from_is, p.to_is) (words-lent s a e (omega arith) l ∙ rw (q, drop_at A (B ++ C) a la) (take_at B C (e - a) m))
 
-  back_is : (w : List ℕ) → length w ≡ length (take (to - from) (drop from s)) → words (take from s ++ (w ++ drop (to - from) (drop from s))) ≡ A ++ (words w ++ C)
+  back_is : (w : List ℕ) → length w ≡ length (lent s from to) → words (replaced s from to w) ≡ A ++ (words w ++ C)
   back_is w lw =
       let m : length (A ++ B) ≡ e = rw length-append (omega arith) in
       rw (p.from_is, p.to_is) (words_back s w a e (omega arith) l (rw (p.from_is, p.to_is) at lw)
@@ -132,35 +139,28 @@ module _ {b : List ℕ} {f : Flat} (h : Shows b f) where
   lp = rw (length-padded (place_size * f.head.places) (each place_words f.places)) (omega (arith, sizes))
 
   module _ {from to : ℕ} where
-    -- the bytes between, and what stands there afterwards
-    abbrev lent : List ℕ
-    lent = take (to - from) (drop from b)
-
-    abbrev replaced : List ℕ → List ℕ
-    replaced w = take from b ++ (w ++ drop (to - from) (drop from b))
-
     module _ (p : RowsPart b from to) where
-      pub rows-lent : Holds row_size row_words f.head.limit f.rows (words lent)
+      pub rows-lent : Holds row_size row_words f.head.limit f.rows (words (lent b from to))
       rows-lent = lent_is p A rs (cs ++ ps) words_framed la lr
 
-      pub rows_back : (w : List ℕ) (xs : List Row) → length w ≡ length lent → Holds row_size row_words f.head.limit xs (words w)
-          → words (replaced w) ≡ framing (length f.rows) (length f.conns) (length f.places) xs f.conns f.places
+      pub rows_back : (w : List ℕ) (xs : List Row) → length w ≡ length (lent b from to) → Holds row_size row_words f.head.limit xs (words w)
+          → words (replaced b from to w) ≡ framing (length f.rows) (length f.conns) (length f.places) xs f.conns f.places
       rows_back w xs l k = back_is p A rs (cs ++ ps) words_framed la lr w l ∙ rw k
 
     module _ (p : ConnsPart b from to) where
-      pub conns-lent : Holds conn_size conn_words f.head.limit f.conns (words lent)
+      pub conns-lent : Holds conn_size conn_words f.head.limit f.conns (words (lent b from to))
       conns-lent = lent_is p (A ++ rs) cs ps by_conns lar lc
 
-      pub conns_back : (w : List ℕ) (xs : List Conn) → length w ≡ length lent → Holds conn_size conn_words f.head.limit xs (words w)
-          → words (replaced w) ≡ framing (length f.rows) (length f.conns) (length f.places) f.rows xs f.places
+      pub conns_back : (w : List ℕ) (xs : List Conn) → length w ≡ length (lent b from to) → Holds conn_size conn_words f.head.limit xs (words w)
+          → words (replaced b from to w) ≡ framing (length f.rows) (length f.conns) (length f.places) f.rows xs f.places
       conns_back w xs l k = back_is p (A ++ rs) cs ps by_conns lar lc w l ∙ rw k (append_assoc A rs (conn_part f.head.limit xs ++ ps))
 
     module _ (p : PlacesPart b from to) where
-      pub places-lent : Holds place_size place_words f.head.places f.places (words lent)
+      pub places-lent : Holds place_size place_words f.head.places f.places (words (lent b from to))
       places-lent = lent_is p (A ++ (rs ++ cs)) ps [] by_places lac lp
 
-      pub places_back : (w : List ℕ) (xs : List Place) → length w ≡ length lent → Holds place_size place_words f.head.places xs (words w)
-          → words (replaced w) ≡ framing (length f.rows) (length f.conns) (length f.places) f.rows f.conns xs
+      pub places_back : (w : List ℕ) (xs : List Place) → length w ≡ length (lent b from to) → Holds place_size place_words f.head.places xs (words w)
+          → words (replaced b from to w) ≡ framing (length f.rows) (length f.conns) (length f.places) f.rows f.conns xs
       places_back w xs l k = back_is p (A ++ (rs ++ cs)) ps [] by_places lac lp w l ∙ rw (k, append-nil) (simp append_assoc)
 
   -- ---- and what they show afterwards
