@@ -17,3 +17,4 @@ pub mod Precedence
 pub mod DroppingRows
 pub mod GoneBy
 pub mod GoneTogether
+pub mod Lent

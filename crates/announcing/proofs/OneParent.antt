@@ -5,7 +5,7 @@ use mathlib.Core.Bool.{Bool, true, false}
 use mathlib.Core.List.{List}
 use Rattle.ident.specs.Number.{Key, top, txid}
 use Rattle.machine.specs.Limits.{word}
-use Rattle.machine.specs.State.{State, Table, limits_of, on_table}
+use Rattle.machine.specs.State.{Candidate, State, Table, limits_of, on_table}
 use Rattle.machine.specs.Sound.{Sound}
 use Rattle.machine.specs.Announce.{request_parent_at}
 use Rattle.machine.specs.Fail.{parent_of, mark}
@@ -15,11 +15,11 @@ use Rattle.store.specs.Shown.{Kept}
 use Rattle.requests.specs.Changes.{Makes}
 use Rattle.announcing.specs.Answers.{Answered, one_parent}
 
--- the parent's key, as the code has it, is k
+-- the parent's key, as the code has it, is k, and the candidate c
 module _ {s s₁ : List ℕ} {r : Bool} (n now h i : ℕ) (p : Peer n) (w : now < word) (v : i < word) (small : h < top) (k : Key) (q : k ≡ txid h)
-    (a : Answered s s₁ r (λ m t. request_parent_at m k (parent_of n now h i) t)) where
+    (c : Candidate) (o : c ≡ parent_of n now h i) (a : Answered s s₁ r (λ m t. request_parent_at m k c t)) where
   asked : Answered s s₁ r (λ m t. request_parent_at m (txid h) (parent_of n now h i) t)
-  asked = subst (λ (j : Key). Answered s s₁ r (λ m t. request_parent_at m j (parent_of n now h i) t)) q a
+  asked = subst (λ (j : Key). Answered s s₁ r (λ m t. request_parent_at m j (parent_of n now h i) t)) q (subst (λ (d : Candidate). Answered s s₁ r (λ m t. request_parent_at m k d t)) o a)
 
   abbrev after : State → State
   after st = on_table (request_parent_at (limits_of st) (txid h) (parent_of n now h i) st.table).table st

@@ -84,6 +84,7 @@ fn greatest_in(s: &[u8], from: usize, to: usize, best: Option<regions::Row>) -> 
 }
 
 // The victim at a hash, under either kind.
+#[tactic(auto, using(requests::proofs::Keeping::kept_shown))]
 pub fn victim_at(s: &[u8], h: ident::Hash) -> Option<regions::Row>
     requires { Kept s.now }
     ensures { Tells s.now (λ t. found result ≡ machine.greatest (machine.victims (machine.at_hash (hash_num h)) t)) }
@@ -103,6 +104,7 @@ pub fn victim_at(s: &[u8], h: ident::Hash) -> Option<regions::Row>
 }
 
 // The victim of the whole table.
+#[tactic(auto, using(crate::proofs::Lent::kept_long, requests::proofs::Keeping::kept_shown))]
 pub fn victim_anywhere(s: &[u8]) -> Option<regions::Row>
     requires { Kept s.now }
     ensures { Tells s.now (λ t. found result ≡ machine.greatest (machine.victims machine.anywhere t)) }
@@ -112,6 +114,7 @@ pub fn victim_anywhere(s: &[u8]) -> Option<regions::Row>
 }
 
 // How many candidates of the table can be evicted, in one pass.
+#[tactic(auto, using(crate::proofs::Lent::kept_long, requests::proofs::Keeping::kept_shown))]
 pub fn evictable(s: &[u8]) -> u64
     requires { Kept s.now }
     ensures { Tells s.now (λ t. result ≡ wrapper.evictable t) }

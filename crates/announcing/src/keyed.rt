@@ -37,6 +37,7 @@ fn barred(s: &[u8], h: ident::Hash, n: u64) -> bool
 }
 
 // The hash has as many candidates as it may.
+#[tactic(auto, using(crate::proofs::Lent::kept_long))]
 pub fn crowded(s: &[u8], h: ident::Hash) -> bool
     requires { Kept s.now }
     ensures { Crowded s.now (hash_num h) result }
@@ -45,6 +46,7 @@ pub fn crowded(s: &[u8], h: ident::Hash) -> bool
 }
 
 // L announcements are held.
+#[tactic(auto, using(crate::proofs::Lent::kept_long))]
 fn full(s: &[u8]) -> bool
     requires { Kept s.now }
     ensures { (st : State) → Sound st → Writes s.now st → result ≡ leb st.limit (held st.table) }

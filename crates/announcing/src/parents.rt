@@ -1,16 +1,35 @@
 // announce_parents: parents requested with the fallback mark (document 01, "announce_parents"). Connection and clock are arguments of their own, as
 // document 01 gives them to each of these steps.
-ghost use Rattle.std.specs.Prelude.{◌*◌, ◌≤◌, length};
+ghost use Rattle.std.specs.Prelude.{◌≡◌, ◌*◌, ◌≤◌, length};
 ghost use Rattle.ident.specs.Words.{hash_num};
 ghost use Rattle.machine.specs.Limits.{max_parents};
 ghost use Rattle.machine.specs.Call.{key_bytes};
 ghost use Rattle.machine.specs.Fail as machine;
+ghost use Rattle.machine.specs.Fail.{parent_of};
 ghost use Rattle.store.specs.Shown.{Kept};
+ghost use Rattle.requests.specs.Changes.{candidate_of};
 ghost use Rattle.lent_lists.specs.Lists.{hashes_in};
 ghost use Rattle.announcing.specs.Answers.{Answered, KeysListed, one_parent};
 
 use crate::parent;
 use ident::connection::Connection;
+
+// The candidate that a parent makes.
+pub fn offered(h: ident::Hash, n: u64, clock: u64, priority: u64) -> requests::Candidate
+    ensures { candidate_of result ≡ parent_of n clock (hash_num h) priority }
+{
+    let item = ident::Item {
+        kind: ident::ItemKind::Transaction,
+        hash: h,
+    };
+    requests::Candidate {
+        connection: n,
+        item,
+        ready: clock,
+        preferred: true,
+        priority,
+    }
+}
 
 // Requests one parent as t; if kept, a request under its Txid key is marked, even where the candidate sits under the Wtxid key.
 pub fn announce_parent(
@@ -24,17 +43,7 @@ pub fn announce_parent(
     ensures { Answered s.old s.new result (λ m t. one_parent m n.number clock (hash_num h) priority t) }
 {
     let k = ident::Key::from(ident::Txid(h));
-    let item = ident::Item {
-        kind: ident::ItemKind::Transaction,
-        hash: h,
-    };
-    let c = requests::Candidate {
-        connection: n.number,
-        item,
-        ready: clock,
-        preferred: true,
-        priority,
-    };
+    let c = offered(h, n.number, clock, priority);
     if parent::request_parent_at(s, k, c) {
         requests::mark(s, k);
         return true;

@@ -26,7 +26,9 @@ use Rattle.requests.proofs.Holding.{either-kind}
 use Rattle.requests.proofs.Keeping.{sized_of}
 use Rattle.announcing.specs.Answers.{Answered, one_parent}
 use Rattle.gathering.specs.declared.beside.Fare.{Fare}
-use Rattle.gathering.specs.declared.beside.Fare.TheVariants.{Waits as Waiting}
+use Rattle.gathering.specs.declared.beside.Fare.TheVariants.{Nothing, Waits as Waiting, Alone}
+use Rattle.gathering.specs.contracts.beside.FarePartialEq.TheImpl.{eq-value}
+use Rattle.gathering.proofs.Faring.{set-same}
 use Rattle.gathering.specs.Merges.{gathered}
 use Rattle.gathering.specs.Waits.{pushes, waits}
 use Rattle.gathering.specs.Aside.{Empty, Aside, Joined, Enters, SetAside, Gathers, ComeIn}
@@ -218,7 +220,7 @@ alone_next {st = st} {t = t} v p late short low is a =
 -- ---- what a call does with the next one
 
 module _ {z : List ℕ} {n now : ℕ} {b w : List ℕ} {j d h : ℕ} (p : Peer n) (late : now < word) (short : j < word) (less : d ≤ j) (low : h < top) (is : h ≡ parent_in z j) where
-  pub waits_with : {w' : List ℕ} {k : Candidate} {r : Fare} → k ≡ parent_of n now h j → SetAside b w w' d (key_of k.item) k r → r ≡ Waiting → WaitsWith z n now b w w' j d true
+  waits_with : {w' : List ℕ} {k : Candidate} {r : Fare} → k ≡ parent_of n now h j → SetAside b w w' d (key_of k.item) k r → r ≡ Waiting → WaitsWith z n now b w w' j d true
   waits_with {w'} {k} {r} q a e = record {
     joins = λ _ st t v.
         let f : j - d + d ≡ j = omega arith in
@@ -228,6 +230,12 @@ module _ {z : List ℕ} {n now : ℕ} {b w : List ℕ} {j d h : ℕ} (p : Peer n
         (waits-too v p late (omega arith) (ap (parent_in z) f ∙ sym is) low (subst (λ (i : ℕ). SetAside b w w' d (some (txid h)) (parent_of n now h i) Waiting) (sym f) one));
     alone = λ e. never (sym e);
   }
+
+  -- the test by which it is told
+  pub waits_if : {w' : List ℕ} {k : Candidate} (r : Fare) {x : Bool} → x ≡ eq-value.it r Waiting → k ≡ parent_of n now h j → SetAside b w w' d (key_of k.item) k r → WaitsWith z n now b w w' j d x
+  waits_if Nothing e q a = rw e (record { joins = λ y. never y; alone = λ _. set-same Nothing a (λ y. cc) })
+  waits_if Waiting e q a = rw e (waits_with q a refl)
+  waits_if Alone e q a = rw e (record { joins = λ y. never y; alone = λ _. set-same Alone a (λ y. cc) })
 
   pub next_alone : {b₁ b₂ w₁ w₂ : List ℕ} {r : Bool} → w₁ ≡ w → LetIn z n now b b₁ w₁ w₂ j d → Answered b₁ b₂ r (λ m t. one_parent m n now h j t)
       → NextIn z n now b b₂ w w₂ j d (record { kept = r; waiting = 0 })

@@ -31,6 +31,7 @@ use Rattle.announcing.proofs.Deciding.{when-full}
 use Rattle.announcing.proofs.Swapping.{change-swap}
 use Rattle.gathering.specs.declared.beside.Fare.{Fare}
 use Rattle.gathering.specs.declared.beside.Fare.TheVariants.{Nothing, Waits, Alone}
+use Rattle.gathering.specs.contracts.beside.FarePartialEq.TheImpl.{eq-value}
 use Rattle.gathering.specs.Waits.{pushes, waits}
 use Rattle.gathering.specs.Aside.{Aside}
 use Rattle.gathering.specs.Exchanges.{Full, Underway, Instead, Swapped, Exchanged}
@@ -262,7 +263,7 @@ module _ {z : List ℕ} {n now : ℕ} {b w v : List ℕ} {j d : ℕ} {q : Reserv
   }
 
   module _ (p : Peer n) (late : now < word) (short : j < word) (less : d ≤ j) {h : ℕ} (low : h < top) (is : h ≡ parent_in z j) (l : q.gone < q.count) where
-    pub swaps_with : {b' w' : List ℕ} {k : Candidate} {r : Fare} → k ≡ parent_of n now h j → Exchanged b b' w w' v d q.gone q.count (key_of k.item) k r → r ≡ Waits
+    swaps_with : {b' w' : List ℕ} {k : Candidate} {r : Fare} → k ≡ parent_of n now h j → Exchanged b b' w w' v d q.gone q.count (key_of k.item) k r → r ≡ Waits
         → SwapsWith z n now b b' w w' v j d q true
     swaps_with {b'} {w'} {k} {r} same a e = record {
       some = λ _. l;
@@ -275,7 +276,7 @@ module _ {z : List ℕ} {n now : ℕ} {b w v : List ℕ} {j d : ℕ} {q : Reserv
       alone = λ e. never (sym e);
     }
 
-    pub swaps_not_with : {b' w' : List ℕ} {k : Candidate} (r : Fare) → k ≡ parent_of n now h j → Exchanged b b' w w' v d q.gone q.count (key_of k.item) k r → (r ≡ Waits → ⊥)
+    swaps_not_with : {b' w' : List ℕ} {k : Candidate} (r : Fare) → k ≡ parent_of n now h j → Exchanged b b' w w' v d q.gone q.count (key_of k.item) k r → (r ≡ Waits → ⊥)
         → SwapsWith z n now b b' w w' v j d q false
     swaps_not_with {b'} {w'} {k} r same a n' = record {
       some = λ e. never e;
@@ -290,3 +291,10 @@ module _ {z : List ℕ} {n now : ℕ} {b w v : List ℕ} {j d : ℕ} {q : Reserv
         left Alone g m st t x =
             let e = g.alone refl in
             subst (λ (f : List ℕ). Beside z n now f w' (j - d) d st t) (sym e.0) (subst (λ (f : List ℕ). Beside z n now b f (j - d) d st t) (sym e.1) x.beside)
+
+    -- the test by which it is told
+    pub swaps_if : {b' w' : List ℕ} {k : Candidate} (r : Fare) {x : Bool} → x ≡ eq-value.it r Waits → k ≡ parent_of n now h j → Exchanged b b' w w' v d q.gone q.count (key_of k.item) k r
+        → SwapsWith z n now b b' w w' v j d q x
+    swaps_if Nothing e same a = rw e (swaps_not_with Nothing same a (λ y. cc))
+    swaps_if Waits e same a = rw e (swaps_with same a refl)
+    swaps_if Alone e same a = rw e (swaps_not_with Alone same a (λ y. cc))

@@ -14,6 +14,7 @@ use crate::joining;
 use crate::joining::Waiting;
 use crate::parents::Parents;
 use announcing::foremost::Victims;
+use announcing::parents::offered;
 use gathering::beside::Fare;
 use ident::connection::Connection;
 
@@ -58,7 +59,7 @@ impl Known {
     // Lists victims for the parents that are left, if they are to be listed.
     fn restock(&mut self, s: &[u8], d: usize, left: usize)
         requires { Kept s.now × (d ≤ space) × (left ≤ most_listed) }
-        ensures { Restocked s.now (words self.old.listed.rows) (words self.new.listed.rows) d (reserve_of self.old) (reserve_of self.new) }
+        ensures { Restocked s.now (words self.old.listed.bytes) (words self.new.listed.bytes) d (reserve_of self.old) (reserve_of self.new) }
     {
         if !self.is_lacking(s, d, left) {
             return;
@@ -74,21 +75,18 @@ impl Known {
 
 // Whether the j-th parent waits with those before it, and the first of the victims listed has gone for it.
 fn swap_with(s: &mut [u8], p: Parents, new: &mut Waiting, q: &Known, j: usize) -> bool
-    requires { Supplies (words p.slot.now) p.connection.number p.clock s.old (words new.old.rows) (words q.now.listed.rows) (j - new.old.count) new.old.count (reserve_of q.now)
+    requires { Supplies (words p.slot.now) p.connection.number p.clock s.old (words new.old.bytes) (words q.now.listed.bytes) (j - new.old.count) new.old.count (reserve_of q.now)
         × (new.old.count ≤ j) × (j < list_most) }
-    ensures { SwapsWith (words p.entry.slot.now) p.entry.connection.number p.entry.clock s.old s.new (words new.old.rows) (words new.new.rows) (words q.now.listed.rows) j
+    ensures { SwapsWith (words p.entry.slot.now) p.entry.connection.number p.entry.clock s.old s.new (words new.old.bytes) (words new.new.bytes) (words q.now.listed.bytes) j
         new.old.count (reserve_of q.now) result × (new.new.count ≡ new.old.count) }
 {
     if q.gone >= q.listed.count {
         return false;
     }
     let h = p.hash(j);
-    let c = joining::offered(h, p.connection.number, p.clock, j as u64);
+    let c = offered(h, p.connection.number, p.clock, j as u64);
     let m = new.count;
-    matches!(
-        gathering::instead::exchange(s, &mut new.rows, m, &q.listed, q.gone, c),
-        Fare::Waits
-    )
+    gathering::instead::exchange(s, &mut new.bytes, m, &q.listed, q.gone, c) == Fare::Waits
 }
 
 // Whether L are held and the connection n has not announced the hash h: it comes in only for a victim.
@@ -115,11 +113,11 @@ fn announce_unaided(s: &mut [u8], n: Connection, clock: u64, h: ident::Hash, pri
 
 // Those before the j-th parent that wait come in; then it is announced, where nobody can be evicted.
 fn announce_spent(s: &mut [u8], p: Parents, new: &mut Waiting, j: usize) -> bool
-    requires { Waits (words p.slot.now) p.connection.number p.clock s.old (words new.old.rows) (j - new.old.count) new.old.count × (new.old.count ≤ j) × (j < list_most) }
-    ensures { SpentIn (words p.entry.slot.now) p.entry.connection.number p.entry.clock s.old s.new (words new.old.rows) (words new.new.rows) j new.old.count result
+    requires { Waits (words p.slot.now) p.connection.number p.clock s.old (words new.old.bytes) (j - new.old.count) new.old.count × (new.old.count ≤ j) × (j < list_most) }
+    ensures { SpentIn (words p.entry.slot.now) p.entry.connection.number p.entry.clock s.old s.new (words new.old.bytes) (words new.new.bytes) j new.old.count result
         × (new.new.count ≡ 0) }
 {
-    new.let_in(s, p, j);
+    new.let_in(s, p.slot, p.connection.number, p.clock, j);
     let h = p.hash(j);
     announce_unaided(s, p.connection, p.clock, h, j as u64)
 }
@@ -137,8 +135,8 @@ fn is_hopeless(s: &[u8], m: usize, q: &Known) -> bool
 
 // Announces the j-th parent beside those that wait, where no victim is listed.
 fn announce_unlisted(s: &mut [u8], p: Parents, new: &mut Waiting, q: &Known, j: usize) -> bool
-    requires { Waits (words p.slot.now) p.connection.number p.clock s.old (words new.old.rows) (j - new.old.count) new.old.count × (new.old.count ≤ j) × (j < list_most) }
-    ensures { FurtherAlone (words p.entry.slot.now) p.entry.connection.number p.entry.clock s.old s.new (words new.old.rows) (words new.new.rows) j new.old.count
+    requires { Waits (words p.slot.now) p.connection.number p.clock s.old (words new.old.bytes) (j - new.old.count) new.old.count × (new.old.count ≤ j) × (j < list_most) }
+    ensures { FurtherAlone (words p.entry.slot.now) p.entry.connection.number p.entry.clock s.old s.new (words new.old.bytes) (words new.new.bytes) j new.old.count
         (unlisted q.now.spent) (record { kept = result; waiting = new.new.count; reserve = unlisted q.now.spent }) }
 {
     if is_hopeless(s, new.count, q) {
@@ -155,10 +153,10 @@ pub fn announce_further(
     q: &mut Known,
     j: usize,
 ) -> bool
-    requires { Supplies (words p.slot.now) p.connection.number p.clock s.old (words new.old.rows) (words q.old.listed.rows) (j - new.old.count) new.old.count (reserve_of q.old)
+    requires { Supplies (words p.slot.now) p.connection.number p.clock s.old (words new.old.bytes) (words q.old.listed.bytes) (j - new.old.count) new.old.count (reserve_of q.old)
         × (new.old.count ≤ j) × (j < p.count) }
-    ensures { FurtherIn (words p.entry.slot.now) p.entry.connection.number p.entry.clock s.old s.new (words new.old.rows) (words new.new.rows) (words q.old.listed.rows)
-        (words q.new.listed.rows) j new.old.count (reserve_of q.old) (record { kept = result; waiting = new.new.count; reserve = reserve_of q.new }) }
+    ensures { FurtherIn (words p.entry.slot.now) p.entry.connection.number p.entry.clock s.old s.new (words new.old.bytes) (words new.new.bytes) (words q.old.listed.bytes)
+        (words q.new.listed.bytes) j new.old.count (reserve_of q.old) (record { kept = result; waiting = new.new.count; reserve = reserve_of q.new }) }
 {
     q.restock(s, new.count, p.count - j);
     if swap_with(s, p, new, q, j) {

@@ -8,7 +8,7 @@ ghost use Rattle.apart.specs.Noting.{Exhausted};
 ghost use Rattle.apart.specs.Lapsing.{Lapses, PlaceExpiring, PlaceExpires, Expires};
 
 use crate::parents::Parents;
-use crate::{noting, slots};
+use crate::{SLOT, noting, slots};
 use ident::connection::Connection;
 use places::ENQUEUED;
 
@@ -16,7 +16,7 @@ use places::ENQUEUED;
 fn lapse(
     s: &mut [u8],
     m: usize,
-    first: &mut [u8],
+    first: &mut [u8; SLOT],
     p: slots::Spot,
     k: ident::Key,
     n: u64,
@@ -35,7 +35,7 @@ fn lapse(
 fn expire_place(
     s: &mut [u8],
     m: usize,
-    first: &mut [u8],
+    first: &mut [u8; SLOT],
     p: slots::Spot,
     k: ident::Key,
     n: Connection,
@@ -69,7 +69,7 @@ pub struct Progress {
 pub fn expire_one(
     s: &mut [u8],
     m: usize,
-    first: &mut [u8],
+    first: &mut [u8; SLOT],
     c: usize,
     k: ident::Key,
     n: Connection,

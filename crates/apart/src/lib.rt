@@ -21,9 +21,10 @@ pub mod silent;
 pub mod slots;
 
 // Bytes of a place.
-pub const SLOT: usize = 6_592;
+pub const SLOT: usize = PLACE * 8;
 
 // The bytes of a store with as many rows, but one place.
+#[tactic(auto, using(announcing::proofs::Lent::kept_long))]
 pub fn bare_bytes(s: &[u8]) -> usize
     requires { Kept s.now }
     ensures { result ≡ bare_bytes (limit_in s.now) }
@@ -40,8 +41,8 @@ pub fn slot_room() -> [u8; SLOT]
 }
 
 // Sets the places apart; m are the bytes without the others.
-pub fn set_apart(s: &mut [u8], m: usize, first: &mut [u8])
-    requires { Kept s.old × (m ≡ bare_bytes (limit_in s.old)) × (length first.old ≡ slot_bytes) }
+pub fn set_apart(s: &mut [u8], m: usize, first: &mut [u8; SLOT])
+    requires { Kept s.old × (m ≡ bare_bytes (limit_in s.old)) }
     ensures { SetApart s.old s.new first.new m }
 {
     let x = m - SLOT;
@@ -52,7 +53,7 @@ pub fn set_apart(s: &mut [u8], m: usize, first: &mut [u8])
 }
 
 // Puts the n places back, and takes the dead ones out.
-pub fn put_back(s: &mut [u8], m: usize, first: &[u8], n: usize)
+pub fn put_back(s: &mut [u8], m: usize, first: &[u8; SLOT], n: usize)
     requires { Rested s.old first.now m n }
     ensures { PutBack s.old s.new first.now m n }
 {

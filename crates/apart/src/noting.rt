@@ -12,11 +12,10 @@ use crate::joining::Waiting;
 use crate::parents::Parents;
 use crate::slots::Note;
 use crate::{SLOT, displacing};
+use machine::limits::MAX_PARENTS;
 
-// Parents of a place, and half of them.
-const MOST: usize = 100;
-
-const HALF: usize = 50;
+// Half of a place's parents.
+const HALF: usize = MAX_PARENTS / 2;
 
 // Which parents of a place were kept. `spent` is a property of the tracker then: nobody can be evicted.
 #[derive(Clone, Copy)]
@@ -29,7 +28,7 @@ pub struct Announced {
 pub fn parents_in(slot: &[u8; SLOT]) -> usize
     ensures { ParentsIn slot.now result }
 {
-    MOST.min(places::read_head(slot, 0).parents as usize)
+    MAX_PARENTS.min(places::read_head(slot, 0).parents as usize)
 }
 
 // How many of n parents are noted in the first number.
@@ -56,10 +55,10 @@ fn announce_bits(
     from: usize,
     to: usize,
 ) -> u64
-    requires { Supplies (words p.slot.now) p.connection.number p.clock s.old (words new.old.rows) (words q.old.listed.rows) (from - new.old.count) new.old.count (reserve_of q.old)
+    requires { Supplies (words p.slot.now) p.connection.number p.clock s.old (words new.old.bytes) (words q.old.listed.bytes) (from - new.old.count) new.old.count (reserve_of q.old)
         × (new.old.count ≤ from) × (from ≤ to) × (to ≤ from + half_most) × (to ≤ p.count) }
-    ensures { HalfIn (words p.entry.slot.now) p.entry.connection.number p.entry.clock s.old s.new (words new.old.rows) (words new.new.rows) (words q.old.listed.rows)
-        (words q.new.listed.rows) from to new.old.count (reserve_of q.old) (record { bits = result; waiting = new.new.count; reserve = reserve_of q.new }) }
+    ensures { HalfIn (words p.entry.slot.now) p.entry.connection.number p.entry.clock s.old s.new (words new.old.bytes) (words new.new.bytes) (words q.old.listed.bytes)
+        (words q.new.listed.bytes) from to new.old.count (reserve_of q.old) (record { bits = result; waiting = new.new.count; reserve = reserve_of q.new }) }
 {
     let mut bits = 0;
     let mut w = 1;
@@ -82,7 +81,7 @@ pub fn announce_all(s: &mut [u8], p: Parents, spent: bool) -> Announced
     let e = first_half(p.count);
     let low = announce_bits(s, p, &mut new, &mut q, 0, e);
     let high = announce_bits(s, p, &mut new, &mut q, e, p.count);
-    new.let_in(s, p, p.count);
+    new.let_in(s, p.slot, p.connection.number, p.clock, p.count);
     Announced {
         note: Note { low, high },
         spent: q.spent,

@@ -29,6 +29,7 @@ fn drop_row(s: &mut [u8], m: usize, i: usize, clock: u64) -> usize
 }
 
 // The owners whose time is over go.
+#[tactic(auto, using(announcing::proofs::Lent::kept_long))]
 pub fn drop_due(s: &mut [u8], clock: u64)
     requires { Kept s.old }
     ensures { Makes s.old s.new Placeless (dropped_all clock) }

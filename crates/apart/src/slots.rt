@@ -10,7 +10,9 @@ ghost use Rattle.places.specs.Places.{place_size};
 ghost use Rattle.regions.specs.Rows.{quad_number};
 ghost use Rattle.apart.specs.Apart.{slot_bytes, kept_at, with_notes, dying, Room, Loaded, HeadIn, SoughtIn, Altered, NoteAt, NoteIn, Forgotten, SpotIn};
 
-use places::{DEAD, PLACE};
+use crate::SLOT;
+use machine::limits::MAX_PARENTS;
+use places::{DEAD, PARENTS, PLACE};
 
 // A place that is not dead: its number, the word of its stage (any bytes may have one that names no stage), and how many parents it has.
 #[derive(Clone, Copy)]
@@ -27,22 +29,22 @@ pub struct Note {
     pub high: u64,
 }
 
-// Where the notes of a place stand in it.
-const KEPT: usize = 811;
+// Where the notes of a place stand in it: behind its parents, of four words each.
+const KEPT: usize = PARENTS + 4 * MAX_PARENTS;
 
 // Copies the i-th place of a region.
-fn copy_out(region: &[u8], i: usize, slot: &mut [u8])
-    requires { (slot_bytes * (i + 1) ≤ length region.now) × (length slot.old ≡ slot_bytes) }
+fn copy_out(region: &[u8], i: usize, slot: &mut [u8; SLOT])
+    requires { slot_bytes * (i + 1) ≤ length region.now }
     ensures { words slot.new ≡ take place_size (drop (place_size * i) (words region.now)) }
 {
-    let x = i * crate::SLOT;
-    let y = x + crate::SLOT;
+    let x = i * SLOT;
+    let y = x + SLOT;
     slot.copy_from_slice(&region[x..y]);
 }
 
 // Copies the i-th place.
-pub fn load(s: &[u8], m: usize, first: &[u8], i: usize, slot: &mut [u8])
-    requires { Room s.now first.now m (i + 1) × (length slot.old ≡ slot_bytes) }
+pub fn load(s: &[u8], m: usize, first: &[u8; SLOT], i: usize, slot: &mut [u8; SLOT])
+    requires { Room s.now first.now m (i + 1) }
     ensures { Loaded s.now first.now m i slot.new }
 {
     if i == 0 {
@@ -54,7 +56,7 @@ pub fn load(s: &[u8], m: usize, first: &[u8], i: usize, slot: &mut [u8])
 }
 
 // The head of the i-th place.
-pub fn head_at(s: &[u8], m: usize, first: &[u8], i: usize) -> places::Head
+pub fn head_at(s: &[u8], m: usize, first: &[u8; SLOT], i: usize) -> places::Head
     requires { Room s.now first.now m (i + 1) }
     ensures { HeadIn s.now first.now m i result }
 {
@@ -66,7 +68,7 @@ pub fn head_at(s: &[u8], m: usize, first: &[u8], i: usize) -> places::Head
 }
 
 // The i-th place dies.
-pub fn kill(s: &mut [u8], m: usize, first: &mut [u8], i: usize)
+pub fn kill(s: &mut [u8], m: usize, first: &mut [u8; SLOT], i: usize)
     requires { Room s.old first.old m (i + 1) }
     ensures { Altered s.old s.new first.old first.new m i dying }
 {
@@ -89,7 +91,7 @@ fn write_note(region: &mut [u8], i: usize, x: Note)
 }
 
 // Notes x of the i-th place.
-pub fn set_note(s: &mut [u8], m: usize, first: &mut [u8], i: usize, x: Note)
+pub fn set_note(s: &mut [u8], m: usize, first: &mut [u8; SLOT], i: usize, x: Note)
     requires { Room s.old first.old m (i + 1) }
     ensures { Altered s.old s.new first.old first.new m i (with_notes x.low x.high) }
 {
@@ -114,7 +116,7 @@ fn read_note(region: &[u8], i: usize) -> Note
 }
 
 // What is noted of the i-th place.
-pub fn note_at(s: &[u8], m: usize, first: &[u8], i: usize) -> Note
+pub fn note_at(s: &[u8], m: usize, first: &[u8; SLOT], i: usize) -> Note
     requires { Room s.now first.now m (i + 1) }
     ensures { NoteIn s.now first.now m i result }
 {
@@ -126,7 +128,7 @@ pub fn note_at(s: &[u8], m: usize, first: &[u8], i: usize) -> Note
 }
 
 // The notes of the first n places are cleared.
-pub fn forget(s: &mut [u8], m: usize, first: &mut [u8], n: usize)
+pub fn forget(s: &mut [u8], m: usize, first: &mut [u8; SLOT], n: usize)
     requires { Room s.old first.old m n }
     ensures { Forgotten s.old s.new first.old first.new m n }
 {
@@ -136,7 +138,7 @@ pub fn forget(s: &mut [u8], m: usize, first: &mut [u8], n: usize)
 }
 
 // The first of n places whose hash is at least h, or n.
-fn seek(s: &[u8], m: usize, first: &[u8], n: usize, h: regions::Quad) -> usize
+fn seek(s: &[u8], m: usize, first: &[u8; SLOT], n: usize, h: regions::Quad) -> usize
     requires { Room s.now first.now m n }
     ensures { SoughtIn s.now first.now m n (quad_number h) result }
 {
@@ -151,7 +153,7 @@ fn seek(s: &[u8], m: usize, first: &[u8], n: usize, h: regions::Quad) -> usize
 }
 
 // The place of the Wtxid key with hash h, if it has one that is not dead.
-fn find_hash(s: &[u8], m: usize, first: &[u8], n: usize, h: ident::Hash) -> Option<Spot>
+fn find_hash(s: &[u8], m: usize, first: &[u8; SLOT], n: usize, h: ident::Hash) -> Option<Spot>
     requires { Room s.now first.now m n }
     ensures { SpotIn s.now first.now m n (wtxid (hash_num h)) result }
 {
@@ -175,7 +177,7 @@ fn find_hash(s: &[u8], m: usize, first: &[u8], n: usize, h: ident::Hash) -> Opti
 }
 
 // The place of the key k, if it has one that is not dead.
-pub fn find(s: &[u8], m: usize, first: &[u8], n: usize, k: ident::Key) -> Option<Spot>
+pub fn find(s: &[u8], m: usize, first: &[u8; SLOT], n: usize, k: ident::Key) -> Option<Spot>
     requires { Room s.now first.now m n }
     ensures { SpotIn s.now first.now m n (key_num k) result }
 {

@@ -18,13 +18,12 @@ use crate::region;
 use machine::limits::MAX_PEER_ANNOUNCEMENTS;
 use regions::Row;
 use regions::listed::Records;
-use std::marker::PhantomData;
 
 // As many rows can wait.
 pub const SPACE: usize = 512;
 
 // How an announcement fares beside those that wait.
-#[derive(Clone, Copy)]
+#[derive(Clone, Copy, Debug, PartialEq, Eq)]
 pub enum Fare {
     // It changes nothing.
     Nothing,
@@ -101,12 +100,7 @@ fn set_aside_at(s: &[u8], new: &mut [u8], m: usize, k: ident::Key, c: requests::
     requires { Kept s.now × (8 * (row_size * space) ≤ length new.old) × (m ≤ space) }
     ensures { SetAside s.now (words new.old) (words new.new) m (some (key_num k)) (candidate_of c) result }
 {
-    let rows = Records {
-        bytes: new,
-        count: m,
-        kind: PhantomData,
-    };
-    match fares(s, rows, k, c) {
+    match fares(s, Records::new(new, m), k, c) {
         Fare::Waits => {
             region::put_in(new, m, waiting_row(s, k, c));
             Fare::Waits

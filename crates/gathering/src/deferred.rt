@@ -17,15 +17,14 @@ use crate::{beside, region};
 use announcing::foremost::Victims;
 use regions::Row;
 use regions::listed::Records;
-use std::marker::PhantomData;
 
 // Whether one of the first n rows listed is at the hash h.
 fn listed_at(top: &Victims, n: usize, h: ident::Hash) -> bool
     requires { n ≤ list_space }
-    ensures { ListedAt (words top.now.rows) n (hash_num h) result }
+    ensures { ListedAt (words top.now.bytes) n (hash_num h) result }
 {
     for i in 0..n {
-        let x = regions::read::<regions::Row>(&top.rows, i);
+        let x = top.get(i);
         let q = x.hash;
         let g = ident::Hash::from(q);
         if lent_lists::same_hash(g, h) {
@@ -46,7 +45,7 @@ fn suits(
     y: regions::Row,
 ) -> Fare
     requires { Kept s.now × (new.count ≤ space) × (new.count < list_space) }
-    ensures { SuitedIn s.now (words new.entry.bytes.now) (words top.now.rows) new.entry.count (key_num k) (candidate_of c) y result }
+    ensures { SuitedIn s.now (words new.entry.bytes.now) (words top.now.bytes) new.entry.count (key_num k) (candidate_of c) y result }
 {
     if new.count >= SPACE {
         return Fare::Alone;
@@ -89,18 +88,13 @@ fn defer_at(
     c: requests::Candidate,
 ) -> Fare
     requires { Kept s.now × (8 * (row_size * space) ≤ length new.old) × (d ≤ space) }
-    ensures { Deferred s.now (words new.old) (words new.new) (words top.now.rows) d top.now.count (some (key_num k)) (candidate_of c) result }
+    ensures { Deferred s.now (words new.old) (words new.new) (words top.now.bytes) d top.now.count (some (key_num k)) (candidate_of c) result }
 {
     if d >= top.count {
         return Fare::Alone;
     }
-    let y = regions::read::<regions::Row>(&top.rows, d);
-    let rows = Records {
-        bytes: new,
-        count: d,
-        kind: PhantomData,
-    };
-    match suits(s, rows, top, k, c, y) {
+    let y = top.get(d);
+    match suits(s, Records::new(new, d), top, k, c, y) {
         Fare::Waits => {
             region::put_in(new, d, beside::waiting_row(s, k, c));
             Fare::Waits
@@ -112,7 +106,7 @@ fn defer_at(
 // The same at the key of c's item. An item of any other kind than t, v and w has no key.
 pub fn defer(s: &[u8], new: &mut [u8], d: usize, top: &Victims, c: requests::Candidate) -> Fare
     requires { Kept s.now × (8 * (row_size * space) ≤ length new.old) × (d ≤ space) }
-    ensures { Deferred s.now (words new.old) (words new.new) (words top.now.rows) d top.now.count (key_of (item_num c.item)) (candidate_of c) result }
+    ensures { Deferred s.now (words new.old) (words new.new) (words top.now.bytes) d top.now.count (key_of (item_num c.item)) (candidate_of c) result }
 {
     let Some(k) = ident::key_of(c.item) else {
         return Fare::Nothing;

@@ -35,9 +35,9 @@ fn drop_row(s: &mut [u8], m: usize, i: usize, v: regions::Row) -> usize
 // The first d of the victims listed in `top` go, in one pass.
 fn drop_victims(s: &mut [u8], top: &Victims, d: usize)
     requires { Kept s.old × (1 ≤ d) × (d ≤ top.now.count) }
-    ensures { Gone s.old s.new (words top.now.rows) top.now.count d }
+    ensures { Gone s.old s.new (words top.now.bytes) top.now.count d }
 {
-    let v = regions::read::<regions::Row>(&top.rows, d - 1);
+    let v = top.get(d - 1);
     let n = store::head::rows(s);
     let mut k = 0;
     for i in 0..n {
@@ -48,11 +48,11 @@ fn drop_victims(s: &mut [u8], top: &Victims, d: usize)
 
 // The same one after the other.
 fn cut_victims(s: &mut [u8], top: &Victims, d: usize)
-    requires { Kept s.old × VictimsIn s.old (words top.now.rows) top.now.count × (d ≤ top.now.count) }
-    ensures { Gone s.old s.new (words top.now.rows) top.now.count d }
+    requires { Kept s.old × VictimsIn s.old (words top.now.bytes) top.now.count × (d ≤ top.now.count) }
+    ensures { Gone s.old s.new (words top.now.bytes) top.now.count d }
 {
     for i in 0..d {
-        let y = regions::read::<regions::Row>(&top.rows, i);
+        let y = top.get(i);
         requests::cut(s, announcing::evict::key_of(y), y.conn);
     }
 }
@@ -62,8 +62,8 @@ const FEW: usize = 4;
 
 // The first d of the victims listed in `top` go.
 pub fn go(s: &mut [u8], top: &Victims, d: usize)
-    requires { Kept s.old × VictimsIn s.old (words top.now.rows) top.now.count × (d ≤ top.now.count) }
-    ensures { Gone s.old s.new (words top.now.rows) top.now.count d }
+    requires { Kept s.old × VictimsIn s.old (words top.now.bytes) top.now.count × (d ≤ top.now.count) }
+    ensures { Gone s.old s.new (words top.now.bytes) top.now.count d }
 {
     if d <= FEW {
         cut_victims(s, top, d);

@@ -15,7 +15,6 @@ use crate::{beside, region};
 use announcing::foremost::Victims;
 use regions::Row;
 use regions::listed::Records;
-use std::marker::PhantomData;
 
 // How the announcement c at k fares beside those that wait, if the candidate of the row y goes for it. At the hash of
 // one that waits nobody goes: the mark of their request could be lost.
@@ -61,19 +60,14 @@ fn exchange_at(
     k: ident::Key,
     c: requests::Candidate,
 ) -> Fare
-    requires { Underway s.old (words new.old) (words top.now.rows) c.connection d p top.now.count × (8 * (row_size * space) ≤ length new.old) × (d ≤ space) }
-    ensures { Exchanged s.old s.new (words new.old) (words new.new) (words top.now.rows) d p top.now.count (some (key_num k)) (candidate_of c) result }
+    requires { Underway s.old (words new.old) (words top.now.bytes) c.connection d p top.now.count × (8 * (row_size * space) ≤ length new.old) × (d ≤ space) }
+    ensures { Exchanged s.old s.new (words new.old) (words new.new) (words top.now.bytes) d p top.now.count (some (key_num k)) (candidate_of c) result }
 {
     if p >= top.count {
         return Fare::Alone;
     }
-    let y = regions::read::<regions::Row>(&top.rows, p);
-    let rows = Records {
-        bytes: new,
-        count: d,
-        kind: PhantomData,
-    };
-    match suits(s, rows, k, c, y) {
+    let y = top.get(p);
+    match suits(s, Records::new(new, d), k, c, y) {
         Fare::Waits => {
             requests::cut(s, announcing::evict::key_of(y), y.conn);
             region::put_in(new, d, beside::waiting_row(s, k, c));
@@ -92,8 +86,8 @@ pub fn exchange(
     p: usize,
     c: requests::Candidate,
 ) -> Fare
-    requires { Underway s.old (words new.old) (words top.now.rows) c.connection d p top.now.count × (8 * (row_size * space) ≤ length new.old) × (d ≤ space) }
-    ensures { Exchanged s.old s.new (words new.old) (words new.new) (words top.now.rows) d p top.now.count (key_of (item_num c.item)) (candidate_of c) result }
+    requires { Underway s.old (words new.old) (words top.now.bytes) c.connection d p top.now.count × (8 * (row_size * space) ≤ length new.old) × (d ≤ space) }
+    ensures { Exchanged s.old s.new (words new.old) (words new.new) (words top.now.bytes) d p top.now.count (key_of (item_num c.item)) (candidate_of c) result }
 {
     let Some(k) = ident::key_of(c.item) else {
         return Fare::Nothing;

@@ -1,14 +1,12 @@
 -- Parents announced for each of some connections, their keys put in order as they come.
-use Prim.Native.Nat.{ℕ, zero, suc, ◌+◌, ◌*◌, ◌/◌, ◌≤◌, ◌<◌}
+use Prim.Native.Nat.{ℕ, zero, suc, ◌+◌, ◌≤◌, ◌<◌}
 use mathlib.Core.Path.{◌≡◌, refl, sym, ap, subst, ◌∙◌}
 use mathlib.Core.List.{List, [], ◌∷◌, ◌++◌, append_assoc, append-nil}
 use native.Mathlib.Numerals.{add-one}
 use native.Mathlib.Omega.{arith}
 use lib.ListN.{length, take, drop, get_or, take-append-drop}
-use lib.Seq.{take-suc, take_all, length-take-le}
+use lib.Seq.{take-suc, take_all}
 use Rattle.ident.specs.Number.{Key}
-use Rattle.words.specs.Words.{number, words}
-use Rattle.words.proofs.Records.{recs-take, take-recs}
 use Rattle.machine.specs.Limits.{Limits, word}
 use Rattle.machine.specs.State.{State, Table, limits_of, on_table}
 use Rattle.machine.specs.Fail.{announce_parents}
@@ -26,7 +24,7 @@ use Rattle.lent_lists.specs.Lists.{keys_in}
 use Rattle.lent_lists.proofs.KeysBack.{keys_back}
 use Rattle.announcing.specs.Answers.{KeysListed}
 use Rattle.merging.specs.Merges.{InOrder, Takes, Merged}
-use Rattle.handing.specs.Hands.{conns_in, Peers, announce_for, Roomy, KeysMerged}
+use Rattle.handing.specs.Hands.{Peers, announce_for, Roomy, KeysMerged}
 use Rattle.merging.proofs.Inserting.{After, merged-after, merged_none, merged_then, takes_front, takes_rest}
 
 -- bytes write one sound state
@@ -178,11 +176,3 @@ module _ {now : ℕ} {hs ns b₀ b u₀ u : List ℕ} {n r i : ℕ} (late : now 
             for_table (limits_of st) now hs (take i ns) x st.table)) (m.table (after st) (after-sound st s) (v.merged.table st s w));
       };
     }
-
--- ---- the connections, as they are lent
-
-pub conns-lent : (q : ℕ) (b : List ℕ) {ns : List ℕ} → 8 * q ≤ length b → conns_in q b ≡ ns → words (take (8 * q) b) ≡ ns
-unfolding words
-conns-lent q b h e =
-    let n : length (take (8 * q) b) / 8 ≡ q = omega (arith, length-take-le (8 * q) b h) in
-    rw n (recs-take 8 (number 256) q b h) ∙ sym (take-recs 8 (number 256) q (length b / 8) b (omega arith)) ∙ e

@@ -1,12 +1,11 @@
 -- A row tells whether its connection owns the request at its key.
 use Prim.Native.Nat.{ℕ, zero, suc, ◌/◌, ◌%◌, ◌≤◌, ◌<◌}
 use mathlib.Core.Path.{◌≡◌, refl, sym, ap, ◌∙◌}
-use mathlib.Core.Bool.{Bool, true, false, not, ◌&&◌}
 use mathlib.Core.List.{List, [], ◌∷◌, ◌++◌, map}
 use native.Mathlib.Omega.{arith}
-use lib.Dec.{ltb, eqb}
+use lib.Dec.{eqb}
 use lib.ListN.{length, get_or}
-use borrow.Author.Tests.{eq-eqb, ne_eqb, ltb-false}
+use borrow.Author.Tests.{eq-eqb, ne_eqb}
 use Rattle.ident.specs.declared.Key.{Key as KeyGiven}
 use Rattle.ident.specs.Number.{Key, place}
 use Rattle.ident.specs.Words.{key_num}
@@ -18,7 +17,6 @@ use Rattle.machine.specs.State.{Candidate, Request, Table, State, owner_is}
 use Rattle.machine.specs.Table.{at}
 use Rattle.machine.specs.Sound.{Ordered, Sound}
 use Rattle.machine.specs.Typed.{Each}
-use Rattle.machine.proofs.Tests.{never}
 use Rattle.store.specs.Flat.{row_of, rows_for, rows_of}
 use Rattle.store.specs.FlatSound.{owns}
 use Rattle.store.specs.Gather.{key_at}

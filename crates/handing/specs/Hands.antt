@@ -1,7 +1,6 @@
 -- What an owner that leaves hands on: parents announced for the candidates left, their keys put in order; or its request, given back.
-use Rattle.std.specs.Prelude.{ℕ, ◌≤◌, ◌<◌, ◌≡◌, ◌⊎◌, Bool, true, false, List, [], ◌∷◌, ◌++◌, map, take}
+use Rattle.std.specs.Prelude.{ℕ, ◌≤◌, ◌<◌, ◌≡◌, ◌⊎◌, Bool, true, false, List, [], ◌∷◌, ◌++◌, map}
 use Rattle.ident.specs.Number.{Key, other}
-use Rattle.words.specs.Words.{words}
 use Rattle.machine.specs.Limits.{Limits, word}
 use Rattle.machine.specs.State.{Candidate, Request, State, Table, limits_of, on_table, with_candidates, unowned, ready_at, owner_is}
 use Rattle.machine.specs.Table.{at, change}
@@ -15,10 +14,6 @@ use Rattle.merging.specs.Merges.{Takes, Merged}
 
 abbrev pub conns_of : List Candidate → List ℕ
 conns_of cs = map (λ c. c.connection) cs
-
--- the first n connections that bytes list, a word each
-abbrev pub conns_in : ℕ → List ℕ → List ℕ
-conns_in n b = take n (words b)
 
 -- connections that can be candidates
 abbrev pub Peers : List ℕ → Type 0

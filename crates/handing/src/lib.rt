@@ -5,9 +5,8 @@
 // The answer u is longer than its keys: how many stand in it, n, goes beside it.
 #![tactic(auto)]
 
-ghost use Rattle.std.specs.Prelude.{◌≡◌, ◌*◌, ◌≤◌, true, false, is_some, [], length};
+ghost use Rattle.std.specs.Prelude.{◌≡◌, ◌≤◌, true, false, is_some, [], length, take};
 ghost use Rattle.ident.specs.Words.{key_num};
-ghost use Rattle.words.specs.Words.{words};
 ghost use Rattle.regions.specs.Rows.{key_number, key_of as row_key_of};
 ghost use Rattle.machine.specs.Limits.{max_alternates, max_parents};
 ghost use Rattle.machine.specs.State.{owner_is};
@@ -20,22 +19,21 @@ ghost use Rattle.lent_lists.specs.Lists.{hashes_in};
 ghost use Rattle.requests.specs.Changes.{Makes, Tells};
 ghost use Rattle.handing.specs.Hands.{eased};
 ghost use Rattle.merging.specs.Merges.{InOrder};
-ghost use Rattle.handing.specs.Hands.{conns_of, conns_in, Peers, announce_for, Roomy, KeysMerged, Silent, Waits};
+ghost use Rattle.handing.specs.Hands.{conns_of, Peers, announce_for, Roomy, KeysMerged, Silent, Waits};
 
 use ident::connection::Connection;
 use lent_lists::{KEYS, LIST};
-
-// Bytes of eight connections.
-const CONNS: usize = 64;
+use machine::limits::MAX_ALTERNATES;
 
 fn no_keys() -> [u8; KEYS] {
     [0u8; KEYS]
 }
 
-// Copies the connections of the candidates of the request at k to the front of `conns`, a word each; answers how many they are.
-fn copy_conns(s: &[u8], k: ident::Key, conns: &mut [u8]) -> usize
-    requires { Kept s.now × (8 * max_alternates ≤ length conns.old) }
-    ensures { (8 * result ≤ length conns.old) × Tells s.now (λ t. conns_in result conns.new ≡ conns_of (at (key_num k) t).candidates) }
+// Copies the connections of the candidates of the request at k to the front of `conns`; answers how many they are.
+#[tactic(auto, using(requests::proofs::Keeping::kept_shown))]
+fn copy_conns(s: &[u8], k: ident::Key, conns: &mut [u64; MAX_ALTERNATES]) -> usize
+    requires { Kept s.now }
+    ensures { (result ≤ max_alternates) × Tells s.now (λ t. take result conns.new ≡ conns_of (at (key_num k) t).candidates) }
 {
     let key = regions::Key::from(k);
     let w = requests::window_of(s, key);
@@ -43,7 +41,7 @@ fn copy_conns(s: &[u8], k: ident::Key, conns: &mut [u8]) -> usize
     let n = w.to - from;
     for i in 0..n {
         let r = store::rows::row_at(s, from + i);
-        words::put(conns, i, r.conn);
+        conns[i] = r.conn;
     }
     n
 }
@@ -67,22 +65,21 @@ fn announce_for(
     merging::merge(u, n, &keys, c)
 }
 
-// The same for each of the connections that `conns` lists, a word each.
+// The same for each of some connections.
 fn announce_each(
     s: &mut [u8],
     clock: u64,
     list: &[u8],
-    conns: &[u8],
+    conns: &[u64],
     u: &mut [u8],
     n: usize,
 ) -> usize
-    requires { Kept s.old × (length (hashes_in list.now) ≤ max_parents) × Peers (words conns.now) × InOrder u.old n
-        × Roomy s.old u.old n (λ m t. announce_for m clock (hashes_in list.now) (words conns.now) t) }
-    ensures { KeysMerged s.old s.new u.old u.new n result (λ m t. announce_for m clock (hashes_in list.now) (words conns.now) t) }
+    requires { Kept s.old × (length (hashes_in list.now) ≤ max_parents) × Peers conns.now × InOrder u.old n
+        × Roomy s.old u.old n (λ m t. announce_for m clock (hashes_in list.now) conns.now t) }
+    ensures { KeysMerged s.old s.new u.old u.new n result (λ m t. announce_for m clock (hashes_in list.now) conns.now t) }
 {
     let mut r = n;
-    for i in 0..conns.len() / 8 {
-        let number = words::get(conns, i);
+    for &number in conns {
         r = announce_for(s, Connection { number }, clock, list, u, r);
     }
     r
@@ -104,36 +101,37 @@ pub fn drop_owned(
     let mut list = [0u8; LIST];
     let parents = failing::parents::parents_for(s, k, n, &mut list);
     failing::failed(s, k, n.number, clock);
-    let mut conns = [0u8; CONNS];
+    let mut conns = [0u64; MAX_ALTERNATES];
     let q = copy_conns(s, k, &mut conns);
-    announce_each(s, clock, parents, &conns[..8 * q], u, c)
+    announce_each(s, clock, parents, &conns[..q], u, c)
 }
 
 // ---- a key that waits to be cut with others
 
 // Whether a connection owns a request, and the row from which to look for its next one, which serves in either case.
 #[derive(Clone, Copy)]
-struct Seen {
-    owner: bool,
+struct Lookup {
+    is_owner: bool,
     next: usize,
 }
 
 // Whether the connection n owns the request at k, by a search.
-fn search_owner(s: &[u8], k: ident::Key, n: Connection) -> Seen
+fn search(s: &[u8], k: ident::Key, n: Connection) -> Lookup
     requires { Kept s.now }
-    ensures { Tells s.now (λ t. result.owner ≡ owner_is n.number (at (key_num k) t).owner) }
+    ensures { Tells s.now (λ t. result.is_owner ≡ owner_is n.number (at (key_num k) t).owner) }
 {
     let r = package_stages::request_at(s, k);
-    Seen {
-        owner: r.is_owned_by(n.number),
+    Lookup {
+        is_owner: r.is_owned_by(n.number),
         next: r.to,
     }
 }
 
 // The same by the first row of n from `guess` on, if that is one of the key: where keys are asked for in order, that row is the next one of n.
-fn is_owner(s: &[u8], k: ident::Key, n: Connection, guess: Option<usize>) -> Seen
+#[tactic(auto, using(announcing::proofs::Lent::kept_long, requests::proofs::Keeping::kept_shown))]
+fn look_up(s: &[u8], k: ident::Key, n: Connection, guess: Option<usize>) -> Lookup
     requires { Kept s.now }
-    ensures { Tells s.now (λ t. result.owner ≡ owner_is n.number (at (key_num k) t).owner) }
+    ensures { Tells s.now (λ t. result.is_owner ≡ owner_is n.number (at (key_num k) t).owner) }
 {
     let rows = store::head::rows(s);
     let from = guess.unwrap_or(rows);
@@ -142,14 +140,14 @@ fn is_owner(s: &[u8], k: ident::Key, n: Connection, guess: Option<usize>) -> See
         if i < rows {
             let r = store::rows::row_at(s, i);
             if regions::Key::from(r) == regions::Key::from(k) {
-                return Seen {
-                    owner: r.owns(),
+                return Lookup {
+                    is_owner: r.owns(),
                     next: i + 1,
                 };
             }
         }
     }
-    search_owner(s, k, n)
+    search(s, k, n)
 }
 
 // Whether the connection n has no parents to hand on at k.
@@ -203,9 +201,9 @@ pub fn waits(
     requires { Kept s.old }
     ensures { Waits n.number clock (key_num k) s.old s.new (is_some result) }
 {
-    let seen = is_owner(s, k, n, guess);
-    if !seen.owner {
-        return Some(seen.next);
+    let found = look_up(s, k, n, guess);
+    if !found.is_owner {
+        return Some(found.next);
     }
     if !is_silent(s, k, n) {
         return None;
@@ -214,5 +212,5 @@ pub fn waits(
         return None;
     }
     ease(s, k, n.number, clock);
-    Some(seen.next)
+    Some(found.next)
 }

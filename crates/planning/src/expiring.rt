@@ -6,6 +6,7 @@ ghost use Rattle.apart.specs.Apart.{Rested};
 ghost use Rattle.apart.specs.Silent.{Placeless, silenced};
 ghost use Rattle.planning.specs.Expiring.{SeekDue, behind, NextDue, MadeReady, ExpiresAll};
 
+use apart::SLOT;
 use ident::connection::Connection;
 
 // An owner whose time is over: its request's key, and its connection.
@@ -66,7 +67,7 @@ fn expire_silent(s: &mut [u8], clock: u64)
 
 // Every owner whose time is over fails, in key order, and its parents are announced for it, one owner after the other. Where nobody can be
 // evicted any more no later parent looks for a victim. Answers how many places at most have notes.
-fn expire_each(s: &mut [u8], m: usize, first: &mut [u8], c: usize, clock: u64) -> usize
+fn expire_each(s: &mut [u8], m: usize, first: &mut [u8; SLOT], c: usize, clock: u64) -> usize
     requires { Rested s.old first.old m c }
     ensures { ExpiresAll s.old s.new first.old first.new m c clock result }
 {
@@ -89,7 +90,7 @@ fn expire_each(s: &mut [u8], m: usize, first: &mut [u8], c: usize, clock: u64) -
 // Every owner whose time is over fails, in key order, and its parents are announced for it. The c places of the store are set apart; the
 // parents kept are noted at their place. Answers how many places at most have notes. (The store, m, the first place and the count travel together as in crates/apart, and are
 // no struct for its reason: apart::slots.)
-pub fn expire(s: &mut [u8], m: usize, first: &mut [u8], c: usize, clock: u64) -> usize
+pub fn expire(s: &mut [u8], m: usize, first: &mut [u8; SLOT], c: usize, clock: u64) -> usize
     requires { Rested s.old first.old m c }
     ensures { ExpiresAll s.old s.new first.old first.new m c clock result }
 {

@@ -67,7 +67,7 @@ fn consider_place(
 fn consider_noted(
     s: &mut [u8],
     m: usize,
-    first: &[u8],
+    first: &[u8; SLOT],
     i: usize,
     clock: Clock,
     picks: &mut [usize],
@@ -92,7 +92,7 @@ fn consider_noted(
 fn keys_kept(
     s: &mut [u8],
     m: usize,
-    first: &[u8],
+    first: &[u8; SLOT],
     e: usize,
     clock: Clock,
     picks: &mut [usize],
@@ -115,7 +115,7 @@ fn keys_kept(
 pub fn phase_kept(
     s: &mut [u8],
     m: usize,
-    first: &[u8],
+    first: &[u8; SLOT],
     e: usize,
     clock: Clock,
     picks: &mut [usize],

@@ -8,6 +8,7 @@ ghost use Rattle.apart.specs.Apart.{Rested};
 ghost use Rattle.planning.specs.Replying.{asked_in, Begins, SelectsOf, PlansOf};
 
 use crate::{expiring, kept, replying};
+use apart::SLOT;
 use machine::clock::Clock;
 
 // How many entries a plan has, how many keys it considered, and when to look again (document 02, request c).
@@ -22,7 +23,7 @@ pub struct Planned {
 fn begin(
     s: &mut [u8],
     m: usize,
-    first: &mut [u8],
+    first: &mut [u8; SLOT],
     c: usize,
     clock: Clock,
     picks: &mut [usize],

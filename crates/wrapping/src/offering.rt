@@ -217,9 +217,9 @@ fn at_most(n: usize) -> usize
 // Announces items from the first on, with the store left as it is: each that comes in waits in `new`, which is empty, and the next of the
 // victims listed in `top` is to go.
 fn swap(s: &[u8], new: &mut [u8], top: &Victims, b: Batch, first: usize) -> Part
-    requires { Kept s.now × Whole s.now × VictimsIn s.now (words top.now.rows) top.now.count
+    requires { Kept s.now × Whole s.now × VictimsIn s.now (words top.now.bytes) top.now.count
         × (8 * (row_size * space) ≤ length new.old) × Empty (words new.old) × (first ≤ length (offers_in b.items.now b.priorities.now)) }
-    ensures { Swaps s.now (words new.new) (words top.now.rows) top.now.count b.entry.terms (offers_in b.entry.items.now b.entry.priorities.now) first result.next result.waiting }
+    ensures { Swaps s.now (words new.new) (words top.now.bytes) top.now.count b.entry.terms (offers_in b.entry.items.now b.entry.priorities.now) first result.next result.waiting }
 {
     let count = b.count();
     let mut d = 0;
@@ -244,7 +244,7 @@ fn swap(s: &[u8], new: &mut [u8], top: &Victims, b: Batch, first: usize) -> Part
 
 // Announces items from the first on: those that come in wait, then the victims go, and one more pass lets in those that have waited.
 fn settle(s: &mut [u8], top: &Victims, b: Batch, first: usize) -> Part
-    requires { Kept s.old × Whole s.old × VictimsIn s.old (words top.now.rows) top.now.count
+    requires { Kept s.old × Whole s.old × VictimsIn s.old (words top.now.bytes) top.now.count
         × (first ≤ length (offers_in b.items.now b.priorities.now)) }
     ensures { Settled s.old s.new top.now.count b.entry.terms (offers_in b.entry.items.now b.entry.priorities.now) first result.next result.waiting }
 {

@@ -4,13 +4,13 @@ use mathlib.Core.Path.{refl}
 use Rattle.ident.specs.Words.{key_num}
 use Rattle.store.specs.Flat.{flat_of}
 use Rattle.store.proofs.Frame.{sizes}
-use Rattle.requests.proofs.Keeping.{kept_shown, from_at, to_at}
+use Rattle.requests.proofs.Keeping.{from_at, to_at}
 use Rattle.requests.proofs.AtHash.{window-size}
 use Rattle.handing.proofs.Copying.{few_candidates, copied_more, copied_all, copied_none}
 use Rattle.handing.proofs.copy_conns.Goals as goal
 
 pub loop-i-init : goal.loop-i-init
-loop-i-init c = let kept = c.requires.0 in
+loop-i-init c = let kept = c.requires in
     let st = kept.state in
     let k = key_num c.args.k in
     let key = c.from-key.ensures in
@@ -18,24 +18,18 @@ loop-i-init c = let kept = c.requires.0 in
     (to_at st kept.sound k key.small key.number (c.window_of-w.ensures.to_is st kept.sound kept.writes)) in (
       copied_none c.args.s.now c.window_of-w.result.from (c.window_of-w.result.to - c.window_of-w.result.from)
           c.args.conns.now,
-      omega (arith, n, few_candidates st kept.sound k key.small, c.requires.1),
+      omega (arith, n, few_candidates st kept.sound k key.small),
     )
-
-pub row_at-r-requires : goal.row_at-r-requires
-row_at-r-requires c = (
-  kept_shown c.requires.0,
-  omega (arith, c.window_of-w.ensures.most, c.window_of-w.ensures.order, c.loop-i-test.true),
-)
 
 pub loop-i-preserved : goal.loop-i-preserved
 loop-i-preserved c = (
   copied_more c.row_at-r.result c.loop-i.invariant.0
-      c.loop-i-test.true c.loop-i.invariant.1 c.put.auto.s (λ f h. omega (
+      c.loop-i-test.true (omega (arith, c.loop-i.invariant.1)) (λ f h. omega (
         arith,
         c.window_of-w.ensures.most,
         c.window_of-w.ensures.order,
         (sizes h).rows,
-      )) (λ f d h. c.row_at-r.ensures f d h) c.put.ensures,
+      )) (λ f d h. c.row_at-r.ensures f d h),
   c.loop-i.invariant.1,
 )
 

@@ -4,22 +4,18 @@ use Rattle.ident.specs.Words.{key_num}
 use Rattle.ident.proofs.Words.{key-four, hash_below}
 use Rattle.machine.specs.Limits.{word}
 use Rattle.handing.proofs.Dropping.{drop_kept, drop_peers, drop-room, dropped}
-use Rattle.handing.proofs.Announcing.{conns-lent}
-use borrow.Author.Rules.{rules}
 use Rattle.handing.proofs.drop_owned.Goals as goal
 
 pub copy_conns-q-requires : goal.copy_conns-q-requires
 copy_conns-q-requires c = let v : c.args.clock < word =
-    omega (arith, c.well_formed.1.1.1.0) in (
-      drop_kept (key_num c.args.k) (hash_below
-          c.args.k.hash
-          (key-four c.args.k
-          c.well_formed.1.0))
-          c.args.n.number
-          c.args.clock v c.failed.ensures
-          c.requires.0,
-      search rules,
-    )
+    omega (arith, c.well_formed.1.1.1.0) in
+    drop_kept (key_num c.args.k) (hash_below
+    c.args.k.hash
+    (key-four c.args.k
+    c.well_formed.1.0))
+    c.args.n.number
+    c.args.clock v c.failed.ensures
+    c.requires.0
 
 pub announce_each-requires : goal.announce_each-requires
 announce_each-requires c =
@@ -40,7 +36,7 @@ announce_each-requires c =
           c.args.clock v
           c.failed.ensures
           c.requires.1 _ c.parents_for-parents.ensures.1 _
-          (λ st s w. conns-lent c.copy_conns-q.result c.copy_conns-q.new.conns (omega (arith, c.copy_conns-q.ensures.0, c.copy_conns-q.auto)) (c.copy_conns-q.ensures.1 st s w))
+          c.copy_conns-q.ensures.1
           c.requires.0,
       c.requires.2,
       drop-room (key_num c.args.k)
@@ -48,7 +44,7 @@ announce_each-requires c =
           c.args.clock v
           c.failed.ensures
           c.requires.1 _ c.parents_for-parents.ensures.1 _
-          (λ st s w. conns-lent c.copy_conns-q.result c.copy_conns-q.new.conns (omega (arith, c.copy_conns-q.ensures.0, c.copy_conns-q.auto)) (c.copy_conns-q.ensures.1 st s w))
+          c.copy_conns-q.ensures.1
           c.args.u.now
           c.args.c
           c.requires.0
@@ -61,5 +57,5 @@ returns c =
     let small = hash_below c.args.k.hash (key-four c.args.k c.well_formed.1.0) in
     dropped (key_num c.args.k) small c.args.n.number c.args.clock v c.failed.ensures
     c.requires.1 _ c.parents_for-parents.ensures.1 _
-    (λ st s w. conns-lent c.copy_conns-q.result c.copy_conns-q.new.conns (omega (arith, c.copy_conns-q.ensures.0, c.copy_conns-q.auto)) (c.copy_conns-q.ensures.1 st s w))
+    c.copy_conns-q.ensures.1
     c.announce_each.ensures

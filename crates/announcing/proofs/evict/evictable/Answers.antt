@@ -6,19 +6,12 @@ use Rattle.machine.proofs.Owning.{one_most}
 use Rattle.store.specs.Flat.{flat_of}
 use Rattle.store.specs.FlatSound.{count_rows}
 use Rattle.store.proofs.Frame.{sizes}
-use Rattle.requests.proofs.Keeping.{kept_shown}
 use Rattle.announcing.proofs.Counted.{goes, goes_one, stays_none, counted_turn, counted}
 use Rattle.announcing.proofs.evict.evictable.Goals as goal
 use Rattle.announcing.proofs.evict.evictable.Goals.{then-not-stays, else-not-stays}
 
-pub rows-n-requires : goal.rows-n-requires
-rows-n-requires c = let z = (kept_shown c.requires).sizes in omega arith
-
 pub loop-i-init : goal.loop-i-init
 loop-i-init c = (omega arith, omega arith, λ f w. unfold count_rows in refl)
-
-pub row_at-r-requires : goal.row_at-r-requires
-row_at-r-requires c = (kept_shown c.requires, omega (arith, c.rows-n.ensures.word, c.loop-i-test.true))
 
 pub loop-i-preserved : goal.loop-i-preserved
 loop-i-preserved c =

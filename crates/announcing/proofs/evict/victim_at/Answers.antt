@@ -2,15 +2,9 @@ use mathlib.Core.Path.{refl}
 use Rattle.ident.specs.Number.{txid, wtxid}
 use Rattle.ident.specs.Words.{hash_num}
 use Rattle.store.specs.Flat.{flat_of}
-use Rattle.requests.proofs.Keeping.{kept_shown, from_at, to_at}
+use Rattle.requests.proofs.Keeping.{from_at, to_at}
 use Rattle.announcing.proofs.Victims.{found_at_hash}
 use Rattle.announcing.proofs.evict.victim_at.Goals as goal
-
-pub greatest_in-victim-requires : goal.greatest_in-victim-requires
-greatest_in-victim-requires c = (kept_shown c.requires, c.window_of-x.ensures.order, c.window_of-x.ensures.most)
-
-pub greatest_in-requires : goal.greatest_in-requires
-greatest_in-requires c = (kept_shown c.requires, c.window_of-y.ensures.order, c.window_of-y.ensures.most)
 
 pub returns : goal.returns
 returns c = λ st s w.

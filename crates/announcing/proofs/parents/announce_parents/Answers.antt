@@ -13,7 +13,7 @@ use Rattle.machine.specs.Step.{key_answer}
 use Rattle.machine.proofs.Fail.{Peer, FewHashes}
 use Rattle.lent_lists.specs.Lists.{hashes_in}
 use Rattle.lent_lists.proofs.Given.{hashes-fit}
-use Rattle.announcing.proofs.Listing.{turned_start, turned_as, turned_repeat, turned_kept, turned_left, turned_more, turned_done}
+use Rattle.announcing.proofs.Listing.{turned_start, turned_as, turned_repeat, turned_kept, turned_left, turned_more}
 use Rattle.announcing.proofs.parents.announce_parents.Goals as goal
 use Rattle.announcing.proofs.parents.announce_parents.Goals.{then-not-occurs_before, then-announce_parent, else-announce_parent, else-not-occurs_before}
 
@@ -64,6 +64,3 @@ loop-i-preserved c =
           turned_as w.s-is w.out-is w.kept-is w.priority-is
           (turned_repeat v inside _ refl (sym c.occurs_before.ensures ∙ w.if-not-occurs_before.false))
     ]
-
-pub returns : goal.returns
-returns c = turned_done c.loop-i.invariant (omega (arith, c.loop-i.invariant.inside, c.loop-i-test.false, c.hashes-count.ensures))

@@ -1,9 +1,9 @@
 -- `apart::displacing::swap_with` meets its contract.
 use mathlib.Core.Path.{refl, ap}
 use native.Mathlib.Omega.{arith}
-use Rattle.ident.proofs.Words.{hash-four, hash_below}
 use Rattle.machine.specs.State.{Candidate}
-use Rattle.apart.proofs.ForVictims.{supplies_underway, swaps_none, swaps_with, swaps_not_with}
+use Rattle.apart.proofs.ForVictims.{supplies_underway, swaps_none, swaps_if}
+use Rattle.ident.proofs.Words.{hash-four, hash_below}
 use borrow.Author.Rules.{rules}
 use Rattle.apart.proofs.displacing.swap_with.Goals as goal
 
@@ -18,18 +18,10 @@ exchange-requires c = (
   omega (arith, c.requires.1, c.requires.2),
 )
 
-pub returns-in-Waits : goal.returns-in-Waits
-returns-in-Waits c = (
-  swaps_with (record { positive = c.args.p.connection.positive; small = omega arith }) (omega arith) (omega (arith, c.requires.2)) c.requires.1
-      (hash_below c.hash-h.result (hash-four c.hash-h.result c.hash-h.type_inv)) c.hash-h.ensures (omega (arith, c.if-q.false)) c.offered-c.ensures
-      c.exchange.ensures c.in-Waits.is,
-  refl,
-)
-
-pub returns-in_default : goal.returns-in_default
-returns-in_default c = (
-  swaps_not_with (record { positive = c.args.p.connection.positive; small = omega arith }) (omega arith) (omega (arith, c.requires.2)) c.requires.1
-      (hash_below c.hash-h.result (hash-four c.hash-h.result c.hash-h.type_inv)) c.hash-h.ensures (omega (arith, c.if-q.false)) c.exchange.result c.offered-c.ensures
-      c.exchange.ensures c.in_default.not-Waits,
+pub returns : goal.returns
+returns c = (
+  swaps_if (record { positive = c.args.p.connection.positive; small = omega arith }) (omega arith) (omega (arith, c.requires.2)) c.requires.1
+      (hash_below c.hash-h.result (hash-four c.hash-h.result c.hash-h.type_inv)) c.hash-h.ensures (omega (arith, c.if-q.false)) c.exchange.result c.eq.ensures c.offered-c.ensures
+      c.exchange.ensures,
   refl,
 )

@@ -1,18 +1,8 @@
 -- `apart::joining::announce_next` meets its contract.
 use native.Mathlib.Omega.{arith}
 use Rattle.ident.proofs.Words.{hash-four, hash_below}
-use Rattle.apart.proofs.Alongside.{next_waits, next_alone, let_kept, waits_same}
+use Rattle.apart.proofs.Alongside.{next_alone, let_kept, waits_same}
 use Rattle.apart.proofs.joining.announce_next.Goals as goal
-
-pub returns-then-wait_with : goal.returns-then-wait_with
-returns-then-wait_with c = rw c.wait_with.ensures.1 (next_waits c.requires.1 c.if-wait_with.true c.wait_with.ensures.0)
-
-pub let_in-requires : goal.let_in-requires
-let_in-requires c = rw c.wait_with.ensures.1 (
-  waits_same (c.wait_with.ensures.0.alone c.if-wait_with.false) c.requires.0,
-  c.requires.1,
-  omega (arith, c.requires.2),
-)
 
 pub announce_parent-requires : goal.announce_parent-requires
 announce_parent-requires c = let_kept c.let_in.ensures.0 (rw c.wait_with.ensures.1 (waits_same (c.wait_with.ensures.0.alone c.if-wait_with.false) c.requires.0))

@@ -16,9 +16,9 @@ loop-j-preserved c = (
   (omega (arith, c.loop-j.invariant.0), omega (arith, c.loop-j-test.true)),
   c.mark.auto.s ∙ c.loop-j.invariant.1,
   marking_goes c.loop-j.invariant.2
-      c.loop-j-test.true (hash_below c.hash-h.result
-      (hash-four c.hash-h.result c.hash-h.type_inv))
-      c.hash-h.ensures c.from.ensures c.mark.ensures,
+      c.loop-j-test.true (hash_below c.parent_of-h.result
+      (hash-four c.parent_of-h.result c.parent_of-h.type_inv))
+      c.parent_of-h.ensures c.from.ensures c.mark.ensures,
 )
 
 pub returns : goal.returns

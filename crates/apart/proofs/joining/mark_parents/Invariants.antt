@@ -7,4 +7,4 @@ use Rattle.apart.proofs.Alongside.{MarkedSoFar}
 use Rattle.apart.proofs.joining.mark_parents.Given as goal
 
 abbrev pub invariant-loop-j : goal.invariant-loop-j
-invariant-loop-j l = ((l.from ≤ l.j) × (l.j ≤ l.to)) × (length l.s ≡ length l.initial.s) × MarkedSoFar l.initial.s l.s (words l.p.slot.now) l.from l.to l.j
+invariant-loop-j l = ((l.from ≤ l.j) × (l.j ≤ l.to)) × (length l.s ≡ length l.initial.s) × MarkedSoFar l.initial.s l.s (words l.slot) l.from l.to l.j

@@ -5,7 +5,7 @@ use native.Mathlib.Omega.{arith}
 use Rattle.ident.specs.Words.{key_num}
 use Rattle.ident.proofs.Words.{key-four, hash_below}
 use Rattle.machine.specs.Limits.{word}
-use Rattle.apart.proofs.OneOwner.{all_room, lent_kept, found_held, found_few, found_inside, expired-without, expired_with}
+use Rattle.apart.proofs.OneOwner.{all_room, lent_kept, found_held, found_inside, expired-without, expired_with}
 use Rattle.apart.proofs.Forgetting.{room_within}
 use borrow.Author.Rules.{rules}
 use Rattle.apart.proofs.lapsing.expire_one.Goals as goal
@@ -36,15 +36,12 @@ expire_place-r-requires c = let x = c.requires.0 in (
 pub set_note-requires : goal.set_note-requires
 set_note-requires c = let x = c.requires.0 in room_within
     (found_inside x c.find.ensures c.in-Some.is) (all_room x.apart (omega (arith, x.count)))
-    c.expire_place-r.auto.s c.expire_place-r.auto.first
-
-pub overflow_add-result : goal.overflow_add-result
-overflow_add-result c = let y = found_few c.requires.0 c.find.ensures c.in-Some.is in omega (arith, y)
+    c.expire_place-r.auto.s (search rules)
 
 pub returns : goal.returns
 returns c = record {
   most = λ l. let y = found_inside c.requires.0 c.find.ensures c.in-Some.is in omega (arith, y);
   goes = λ st xs o n own.
       let h = c.find.ensures.held c.in-Some.p c.in-Some.is st.places xs n o.slots o.ascend in
-      expired_with o h (c.expire_place-r.ensures st xs o h own) c.set_note.ensures c.set_note.auto.s c.set_note.auto.first;
+      expired_with o h (c.expire_place-r.ensures st xs o h own) c.set_note.ensures c.set_note.auto.s (search rules);
 }

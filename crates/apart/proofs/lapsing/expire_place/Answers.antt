@@ -11,9 +11,6 @@ use Rattle.apart.proofs.OneOwner.{front_kept, place-room, lapsed_kept, few_paren
 use borrow.Author.Rules.{rules}
 use Rattle.apart.proofs.lapsing.expire_place.Goals as goal
 
-pub load-requires : goal.load-requires
-load-requires c = let x = c.requires.0 in (place-room x.apart x.held.inside, search rules)
-
 pub lapse-requires : goal.lapse-requires
 lapse-requires c = (
   place-room c.requires.0.apart

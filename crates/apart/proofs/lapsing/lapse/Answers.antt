@@ -1,12 +1,8 @@
 -- `apart::lapsing::lapse` meets its contract.
-use mathlib.Core.Path.{refl, sym, subst}
+use mathlib.Core.Path.{refl}
 use borrow.Author.Tests.{eq-eqb, ne_eqb}
-use Rattle.store.specs.Shown.{Kept}
-use Rattle.apart.proofs.Overdue.{front_lent, lapse-fails, lapse_stays}
+use Rattle.apart.proofs.Overdue.{lapse-fails, lapse_stays}
 use Rattle.apart.proofs.lapsing.lapse.Goals as goal
-
-pub failed-requires : goal.failed-requires
-failed-requires c = subst Kept (sym (front_lent c.args.s.now c.args.m)) c.requires.1
 
 pub returns-then-p-ne-ENQUEUED : goal.returns-then-p-ne-ENQUEUED
 returns-then-p-ne-ENQUEUED c = λ st ps o h. lapse-fails o h c.args.n c.args.clock (ne_eqb c.args.p.stage 3 c.if-p-ne-ENQUEUED.true)

@@ -1,22 +1,11 @@
 -- `apart::noting::announce_bits` meets its contract.
 use Prim.Native.Nat.{ℕ, ◌+◌, ◌-◌}
-use mathlib.Core.Path.{◌≡◌, refl, ap, ◌∙◌}
+use mathlib.Core.Path.{ap, ◌∙◌}
 use native.Mathlib.Omega.{arith}
 use Rattle.words.specs.Words.{words}
 use Rattle.apart.proofs.Notes.{weight-most, weight_next, one_most, kept_weight}
-use Rattle.apart.proofs.InHalves.{way-starts, way_supplies, way_goes, way-ends}
+use Rattle.apart.proofs.InHalves.{way_supplies, way_goes, way-ends}
 use Rattle.apart.proofs.noting.announce_bits.Goals as goal
-
-pub loop-j-init : goal.loop-j-init
-loop-j-init c = let e : c.args.from - c.args.from ≡ 0 = omega arith in (
-  (omega arith, c.requires.2),
-  refl,
-  rw e refl,
-  omega arith,
-  c.requires.1,
-  way-starts (words c.args.p.slot.now) c.args.p.connection.number c.args.p.clock
-      c.args.from c.args.to _ _ _ _ _,
-)
 
 pub announce_further-kept-requires : goal.announce_further-kept-requires
 announce_further-kept-requires c = (

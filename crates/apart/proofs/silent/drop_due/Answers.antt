@@ -1,13 +1,9 @@
 -- `apart::silent::drop_due` meets its contract.
 use native.Mathlib.Omega.{arith}
-use Rattle.store.proofs.Frame.{sizes}
 use Rattle.announcing.proofs.DroppingRows.{dropping_none, dropping_rows, dropping_shown, dropping_more, dropping_end}
 use Rattle.apart.specs.Silent.{is_due}
 use Rattle.apart.proofs.DroppedTables.{dropped-writes}
 use Rattle.apart.proofs.silent.drop_due.Goals as goal
-
-pub rows-n-requires : goal.rows-n-requires
-rows-n-requires c = omega (arith, sizes c.requires.writes)
 
 pub loop-i-init : goal.loop-i-init
 loop-i-init c = dropping_none _ (is_due c.args.clock)

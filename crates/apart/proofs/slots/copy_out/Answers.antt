@@ -4,4 +4,4 @@ use Rattle.apart.proofs.Slotted.{copied_out}
 use Rattle.apart.proofs.slots.copy_out.Goals as goal
 
 pub returns : goal.returns
-returns c = copied_out c.args.region.now c.args.i refl refl c.requires.0 c.copy_from_slice.ensures.after
+returns c = copied_out c.args.region.now c.args.i refl refl c.requires c.copy_from_slice.ensures.after

@@ -1,20 +1,18 @@
 -- `apart::slots::forget` meets its contract.
 use mathlib.Core.Path.{refl, ◌∙◌}
 use native.Mathlib.Omega.{arith}
-use Rattle.apart.proofs.Forgetting.{forgetting_starts, forgetting_goes, forgetting_ends, room_within}
+use borrow.Author.Rules.{rules}
+use Rattle.apart.proofs.Forgetting.{forgetting_starts, forgetting_goes, forgetting_ends}
 use Rattle.apart.proofs.slots.forget.Goals as goal
 
 pub loop-i-init : goal.loop-i-init
 loop-i-init c = (omega arith, refl, refl, forgetting_starts)
 
-pub set_note-requires : goal.set_note-requires
-set_note-requires c = room_within c.loop-i-test.true c.requires c.loop-i.invariant.1 c.loop-i.invariant.2
-
 pub loop-i-preserved : goal.loop-i-preserved
 loop-i-preserved c = (
   omega (arith, c.loop-i-test.true),
   c.set_note.auto.s ∙ c.loop-i.invariant.1,
-  c.set_note.auto.first ∙ c.loop-i.invariant.2,
+  search rules,
   forgetting_goes c.loop-i.invariant.3 c.set_note.ensures,
 )
 

@@ -3,11 +3,8 @@ use mathlib.Core.Path.{sym, ◌∙◌}
 use native.Mathlib.Omega.{arith}
 use borrow.Author.Tests.{ltb-true, ltb-false}
 use Rattle.regions.specs.Rows.{quad_number}
-use Rattle.apart.proofs.Spotting.{sought_none, sought_first, sought_later}
+use Rattle.apart.proofs.Spotting.{sought_first, sought_later}
 use Rattle.apart.proofs.slots.seek.Goals as goal
-
-pub returns-then-n-eq0 : goal.returns-then-n-eq0
-returns-then-n-eq0 c = sought_none (omega (arith, c.if-n-eq0.true))
 
 pub returns-then-not-quad_less : goal.returns-then-not-quad_less
 returns-then-not-quad_less c =

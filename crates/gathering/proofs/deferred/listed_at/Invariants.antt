@@ -6,4 +6,4 @@ use Rattle.gathering.proofs.Deferrals.{Passed}
 use Rattle.gathering.proofs.deferred.listed_at.Given as goal
 
 abbrev pub invariant-loop-i : goal.invariant-loop-i
-invariant-loop-i l = (l.i ≤ l.n) × Passed (words l.top.rows) (hash_num l.h) l.i
+invariant-loop-i l = (l.i ≤ l.n) × Passed (words l.top.bytes) (hash_num l.h) l.i

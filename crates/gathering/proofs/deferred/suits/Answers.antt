@@ -2,12 +2,8 @@
 use mathlib.Core.Path.{sym, ◌∙◌}
 use native.Mathlib.Omega.{arith}
 use borrow.Author.Tests.{not-false, ne_eqb}
-use Rattle.gathering.proofs.Deferrals.{suited-barred, suited-crowded, suited_in}
+use Rattle.gathering.proofs.Deferrals.{suited-crowded, suited_in}
 use Rattle.gathering.proofs.deferred.suits.Goals as goal
-
-pub returns-then-barred : goal.returns-then-barred
-returns-then-barred c = suited-barred (not-false c.args.c.preferred
-    c.if-not-c.false) c.listed_at.ensures c.if-listed_at.false c.barred.ensures c.if-barred.true
 
 pub returns-then-crowded : goal.returns-then-crowded
 returns-then-crowded c = suited-crowded (not-false c.args.c.preferred

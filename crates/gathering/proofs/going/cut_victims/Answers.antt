@@ -1,7 +1,6 @@
 -- `gathering::going::cut_victims` meets its contract.
-use mathlib.Core.Path.{◌≡◌}
 use native.Mathlib.Omega.{arith}
-use Rattle.gathering.proofs.Departing.{parting_none, parting_kept, parting_more, parting_done}
+use Rattle.gathering.proofs.Departing.{parting_none, parting_kept, parting_more}
 use Rattle.gathering.proofs.going.cut_victims.Goals as goal
 
 pub loop-i-init : goal.loop-i-init
@@ -16,10 +15,5 @@ loop-i-preserved c = (
   omega (arith, c.loop-i-test.true),
   parting_more c.loop-i.invariant.1 (omega
       (arith, c.loop-i-test.true, c.requires.2))
-      c.read-y.ensures c.key_of.ensures c.cut.auto.s c.cut.ensures,
+      c.get-y.ensures c.key_of.ensures c.cut.auto.s c.cut.ensures,
 )
-
-pub returns : goal.returns
-returns c =
-    let e : c.loop-i.i ≡ c.args.d = omega (arith, c.loop-i.invariant.0, c.loop-i-test.false) in
-    parting_done c.loop-i.invariant.1 e

@@ -5,4 +5,4 @@ use Rattle.gathering.proofs.Departing.{Parting}
 use Rattle.gathering.proofs.going.cut_victims.Given as goal
 
 abbrev pub invariant-loop-i : goal.invariant-loop-i
-invariant-loop-i l = (l.i ≤ l.d) × Parting l.initial.s l.s (words l.top.rows) l.top.count l.i
+invariant-loop-i l = (l.i ≤ l.d) × Parting l.initial.s l.s (words l.top.bytes) l.top.count l.i

@@ -10,7 +10,7 @@ pub rows-n-requires : goal.rows-n-requires
 rows-n-requires c = omega (arith, sizes c.requires.0.writes)
 
 pub loop-i-init : goal.loop-i-init
-loop-i-init c = dropping_none _ (goes_by c.read-v.result)
+loop-i-init c = dropping_none _ (goes_by c.get-v.result)
 
 pub drop_row-k-requires : goal.drop_row-k-requires
 drop_row-k-requires c = (
@@ -38,6 +38,6 @@ drop_rows-requires c = (
 
 pub returns : goal.returns
 returns c = gone_at_once c.requires.1
-    c.requires.2 c.read-v.ensures
+    c.requires.2 c.get-v.ensures
     (λ st s w. dropping_end c.loop-i.invariant c.rows-n.ensures.word (omega
     (arith, c.loop-i-test.false)) c.drop_rows.ensures st s w)

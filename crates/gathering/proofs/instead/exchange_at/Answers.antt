@@ -6,14 +6,14 @@ use Rattle.gathering.proofs.Exchanging.{after_kept, exchanged_not, exchanged_in}
 use Rattle.gathering.proofs.instead.exchange_at.Goals as goal
 
 pub returns-in_default : goal.returns-in_default
-returns-in_default c = exchanged_not c.suits.ensures c.in_default.not-Waits
+returns-in_default c = exchanged_not (rw (c.new.ensures.0, c.new.ensures.1) at c.suits.ensures) c.in_default.not-Waits
 
 pub waiting_row-requires : goal.waiting_row-requires
-waiting_row-requires c = after_kept (candidate_of c.args.c) c.requires.0.full (omega (arith, c.if-p-top.false)) c.read-y.result c.read-y.ensures
+waiting_row-requires c = after_kept (candidate_of c.args.c) c.requires.0.full (omega (arith, c.if-p-top.false)) c.get-y.result c.get-y.ensures
     c.key_of.ensures c.cut.ensures
 
 pub returns-in-Waits : goal.returns-in-Waits
 returns-in-Waits c =
     let k = c.args.k in
-    exchanged_in (hash_below k.hash (key-four k c.well_formed.1.1.1.1.1.0)) (omega (arith, c.if-p-top.false)) c.read-y.ensures
-    c.in-Waits.ensures c.key_of.ensures c.cut.ensures c.waiting_row.ensures c.put_in.ensures
+    exchanged_in (hash_below k.hash (key-four k c.well_formed.1.1.1.1.1.0)) (omega (arith, c.if-p-top.false)) c.get-y.ensures
+    (rw (c.new.ensures.0, c.new.ensures.1) at c.in-Waits.ensures) c.key_of.ensures c.cut.ensures c.waiting_row.ensures c.put_in.ensures

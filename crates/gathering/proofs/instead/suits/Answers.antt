@@ -1,11 +1,8 @@
 -- `gathering::instead::suits` meets its contract.
 use native.Mathlib.Omega.{arith}
 use borrow.Author.Tests.{not-false}
-use Rattle.gathering.proofs.Exchanging.{suits-barred, suits_in}
+use Rattle.gathering.proofs.Exchanging.{suits_in}
 use Rattle.gathering.proofs.instead.suits.Goals as goal
-
-pub returns-then-barred : goal.returns-then-barred
-returns-then-barred c = suits-barred c.barred.ensures c.if-barred.true
 
 pub returns : goal.returns
 returns c = suits_in (omega (arith, c.if-new-ge-SPACE.false))

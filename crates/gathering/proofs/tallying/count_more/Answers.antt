@@ -2,20 +2,10 @@
 use native.Mathlib.Omega.{arith}
 use Prim.Native.Nat.{◌<◌}
 use lib.ListN.{length}
-use Rattle.store.proofs.Counted.{light_at}
 use Rattle.store.proofs.Frame.{sizes}
 use Rattle.store.proofs.Tally.{fresh}
 use Rattle.gathering.proofs.Raising.{raised_found, raised_new}
 use Rattle.gathering.proofs.tallying.count_more.Goals as goal
-
-pub overflow_add-e : goal.overflow_add-e
-overflow_add-e c = omega (
-  arith,
-  light_at c.requires.0
-      c.seek_conn-i.result (fresh 0 0) (c.is_entry.ensures.inside
-      c.if-is_entry.true) (c.conn_at-c.ensures c.requires.0.flat (fresh 0 0)
-      c.requires.0.shows),
-)
 
 pub returns-then-is_entry : goal.returns-then-is_entry
 returns-then-is_entry c = λ f so h.

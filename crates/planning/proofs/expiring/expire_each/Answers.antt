@@ -9,27 +9,24 @@ use Rattle.planning.proofs.AllExpired.{place-small, way-starts, way-parted, way-
 use Rattle.planning.proofs.expiring.expire_each.Goals as goal
 
 pub loop-due-init : goal.loop-due-init
-loop-due-init c = (refl, refl, omega arith, omega arith, way-starts c.args.clock _ (omega arith) _ refl)
+loop-due-init c = (refl, omega arith, omega arith, way-starts c.args.clock _ (omega arith) _ refl)
 
 pub slice_bounds-next_due-end : goal.slice_bounds-next_due-end
-slice_bounds-next_due-end c = let x = front_within (way-parted c.requires c.loop-due.invariant.4).apart in omega (arith, x)
+slice_bounds-next_due-end c = let x = front_within (way-parted c.requires c.loop-due.invariant.3).apart in omega (arith, x)
 
 pub next_due-requires : goal.next_due-requires
-next_due-requires c = lent_kept (way-parted c.requires c.loop-due.invariant.4).apart
+next_due-requires c = lent_kept (way-parted c.requires c.loop-due.invariant.3).apart
 
 pub shape_of-s : goal.shape_of-s
 shape_of-s c = c.loop-due.invariant.0
 
-pub shape_of-first : goal.shape_of-first
-shape_of-first c = c.loop-due.invariant.1
-
 pub returns : goal.returns
-returns c = way-ends c.loop-due.invariant.3 c.loop-due.invariant.4 ((lent_next c.loop-due.s c.args.m c.next_due.ensures).ends c.in_default.is)
+returns c = way-ends c.loop-due.invariant.2 c.loop-due.invariant.3 ((lent_next c.loop-due.s c.args.m c.next_due.ensures).ends c.in_default.is)
 
 pub expire_one-known-requires : goal.expire_one-known-requires
 expire_one-known-requires c = let g = (lent_next c.loop-due.s c.args.m c.next_due.ensures).goes c.in-Some.due c.in-Some.is in (
-  way-parted c.requires c.loop-due.invariant.4,
-  way-spent c.requires c.loop-due.invariant.4,
+  way-parted c.requires c.loop-due.invariant.3,
+  way-spent c.requires c.loop-due.invariant.3,
 )
 
 pub invariant_of-owner : goal.invariant_of-owner
@@ -47,8 +44,7 @@ loop-due-preserved c = let g = (lent_next c.loop-due.s c.args.m c.next_due.ensur
       c.well_formed.1.1.1.1.0,
     ) in (
       c.expire_one-known.auto.s ∙ c.loop-due.invariant.0,
-      c.expire_one-known.auto.first ∙ c.loop-due.invariant.1,
       place-small (key_num c.in-Some.due.key) g.small,
-      c.expire_one-known.ensures.most c.loop-due.invariant.3,
-      way_goes v c.loop-due.invariant.4 g c.expire_one-known.ensures,
+      c.expire_one-known.ensures.most c.loop-due.invariant.2,
+      way_goes v c.loop-due.invariant.3 g c.expire_one-known.ensures,
     )

@@ -8,7 +8,7 @@ use Rattle.planning.specs.Expiring.{behind}
 use Rattle.planning.proofs.expiring.expire_each.Given as goal
 
 abbrev pub invariant-loop-due : goal.invariant-loop-due
-invariant-loop-due l = (length l.s ≡ length l.initial.s) × (length l.first ≡ length l.initial.first) × (behind l.last ≤ top + top) × (l.known.noted ≤ l.c)
+invariant-loop-due l = (length l.s ≡ length l.initial.s) × (behind l.last ≤ top + top) × (l.known.noted ≤ l.c)
     × AllOnTheWay l.initial.s l.s l.initial.first l.first l.m l.c l.clock (behind l.last) l.known
 
 abbrev pub decreases-loop-due : goal.decreases-loop-due

@@ -3,6 +3,7 @@ use native.Mathlib.Omega.{arith}
 use mathlib.Core.Path.{◌∙◌}
 use Rattle.apart.proofs.OneOwner.{all_room, front_kept}
 use Rattle.planning.proofs.Planned.{rested_few, expired-parted, room_same, begun}
+use borrow.Author.Rules.{rules}
 use Rattle.planning.proofs.plan.begin.Goals as goal
 
 pub expire-e-requires : goal.expire-e-requires
@@ -27,4 +28,4 @@ forget-requires c = let x = expired-parted c.expire-e.ensures c.requires.0 in ro
 
 pub returns : goal.returns
 returns c = begun (rested_few c.requires.0) c.expire-e.ensures c.fresh-v.ensures
-    c.phase_kept-w.ensures c.forget.ensures (c.forget.auto.s ∙ c.phase_kept-w.auto.s) c.forget.auto.first
+    c.phase_kept-w.ensures c.forget.ensures (c.forget.auto.s ∙ c.phase_kept-w.auto.s) (search rules)

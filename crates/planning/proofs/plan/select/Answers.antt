@@ -38,11 +38,11 @@ put_back-requires c =
     let k = c.requires.0 in
     let y = front_within (set-parted c.requires.0 c.set_apart.ensures c.held_places-c.ensures.word).apart in
     parted-after (asked_in (λ g. g.now) c.args.asked) late c.set_apart.ensures c.begin-v.ensures c.held_places-c.ensures.word k.state k.sound k.writes (omega (arith, y, c.begin-v.auto.s))
-    c.ask-r.auto.s refl (search rules) c.begin-v.auto.first c.ask-r.ensures
+    c.ask-r.auto.s refl (search rules) (search rules) c.ask-r.ensures
 
 pub returns : goal.returns
 returns c =
     let late : c.args.clock.time < word = omega (arith, c.args.clock.early) in
     let y = front_within (set-parted c.requires.0 c.set_apart.ensures c.held_places-c.ensures.word).apart in
     λ st s o. plan_is (asked_in (λ g. g.now) c.args.asked) late c.set_apart.ensures c.begin-v.ensures c.held_places-c.ensures.word st s o (omega (arith, y, c.begin-v.auto.s))
-    c.ask-r.auto.s refl (search rules) c.begin-v.auto.first c.ask-r.ensures c.put_back.ensures
+    c.ask-r.auto.s refl (search rules) (search rules) c.ask-r.ensures c.put_back.ensures

@@ -5,19 +5,8 @@ use lib.ListN.{length}
 use Rattle.regions.specs.Rows.{key_number}
 use Rattle.regions.proofs.Equal.{same_keys}
 use Rattle.store.specs.Flat.{flat_of, rows_of}
-use Rattle.store.proofs.Frame.{sizes}
-use Rattle.requests.proofs.Keeping.{kept_shown}
 use Rattle.handing.proofs.RowOwners.{row-says}
-use Rattle.handing.proofs.is_owner.Goals as goal
-
-pub rows-rows-requires : goal.rows-rows-requires
-rows-rows-requires c = omega (arith, sizes c.requires.writes)
-
-pub find_row-i-requires : goal.find_row-i-requires
-find_row-i-requires c = (kept_shown c.requires, omega (arith, c.if-from-rows.true), omega (arith, c.rows-rows.ensures.word))
-
-pub row_at-r-requires : goal.row_at-r-requires
-row_at-r-requires c = (kept_shown c.requires, omega (arith, c.rows-rows.ensures.word, c.if-i-rows.true))
+use Rattle.handing.proofs.look_up.Goals as goal
 
 pub returns-then-eq : goal.returns-then-eq
 returns-then-eq c = λ st s w.
