@@ -15,7 +15,7 @@ ghost use Rattle.store.specs.Image.{Shows};
 ghost use Rattle.store.specs.Shown.{rows_in, Shown, Kept};
 ghost use Rattle.requests.specs.Changes.{Tells};
 ghost use Rattle.announcing.specs.Evicts.{part};
-ghost use Rattle.choosing.specs.Choosing.{any_owns, Better, WithRow, Least, Either, Choice, WindowAs, Chooses};
+ghost use Rattle.choosing.specs.Choosing.{any_owns, Better, WithRow, Least, Either, Choice, WindowAs, Windows, Chooses};
 
 use machine::limits::MAX_PEER_IN_FLIGHT;
 
@@ -33,6 +33,13 @@ pub struct Pick {
 pub struct Chosen {
     pub pick: Option<Pick>,
     pub wait: Option<u64>,
+}
+
+// Where the rows of a hash stand: as Txid, and as Wtxid.
+#[derive(Clone, Copy)]
+pub struct HashRows {
+    pub txid: requests::Window,
+    pub wtxid: requests::Window,
 }
 
 // ---- one row
@@ -63,23 +70,23 @@ fn able(s: &[u8], clock: u64, r: regions::Row) -> bool
     f.owned < MAX_PEER_IN_FLIGHT
 }
 
-// The sooner of the row r, which is the i-th, and of what has been found; the row, where neither is.
-fn better(r: regions::Row, i: usize, best: Option<Pick>) -> Option<Pick>
-    ensures { Better r i best result }
+// The sooner of p and of what has been found; p, where neither is.
+fn better(p: Pick, best: Option<Pick>) -> Option<Pick>
+    ensures { Better p.row p.at best result }
 {
     match best {
-        Some(found) if sooner(found.row, r) => best,
-        _ => Some(Pick { row: r, at: i }),
+        Some(found) if sooner(found.row, p.row) => best,
+        _ => Some(p),
     }
 }
 
 // One row more, in front of those that were scanned.
-fn with_row(s: &[u8], clock: u64, r: regions::Row, i: usize, best: Option<Pick>) -> Option<Pick>
+fn with_row(s: &[u8], clock: u64, p: Pick, best: Option<Pick>) -> Option<Pick>
     requires { Kept s.now }
-    ensures { WithRow s.now clock r i best result }
+    ensures { WithRow s.now clock p.row p.at best result }
 {
-    if able(s, clock, r) {
-        better(r, i, best)
+    if able(s, clock, p.row) {
+        better(p, best)
     } else {
         best
     }
@@ -95,7 +102,7 @@ fn least_in(s: &[u8], clock: u64, x: requests::Window) -> Option<Pick>
     let mut v = None;
     for i in (x.from..x.to).rev() {
         let r = store::rows::row_at(s, i);
-        v = with_row(s, clock, r, i, v);
+        v = with_row(s, clock, Pick { row: r, at: i }, v);
     }
     v
 }
@@ -121,16 +128,18 @@ fn either(a: Option<Pick>, b: Option<Pick>) -> Option<Pick>
     ensures { Either a b result }
 {
     match a {
-        Some(p) => better(p.row, p.at, b),
+        Some(p) => better(p, b),
         None => b,
     }
 }
 
-// What a plan chooses for the hash whose rows stand in x as Txid and in y as Wtxid, if nobody owns it. Where no row of a key is ready, when one will be.
-pub fn choose_within(s: &[u8], clock: u64, x: requests::Window, y: requests::Window) -> Chosen
-    requires { Kept s.now × (x.to ≤ rows_in s.now) × (y.to ≤ rows_in s.now) }
-    ensures { Choice s.now clock x y result }
+// What a plan chooses for the hash whose rows stand there, if nobody owns it. Where no row of a key is ready, when one will be.
+pub fn choose_within(s: &[u8], clock: u64, h: HashRows) -> Chosen
+    requires { Kept s.now × (h.txid.to ≤ rows_in s.now) × (h.wtxid.to ≤ rows_in s.now) }
+    ensures { Choice s.now clock h.txid h.wtxid result }
 {
+    let x = h.txid;
+    let y = h.wtxid;
     if owned_in(s, x) || owned_in(s, y) {
         return Chosen {
             pick: None,
@@ -156,12 +165,21 @@ pub fn window_as(s: &[u8], kind: ident::Kind, h: ident::Hash) -> requests::Windo
     requests::window_of(s, key)
 }
 
+// Where its rows stand under both.
+pub fn rows_of(s: &[u8], h: ident::Hash) -> HashRows
+    requires { Kept s.now }
+    ensures { Windows s.now (hash_num h) result.txid result.wtxid }
+{
+    HashRows {
+        txid: window_as(s, ident::Kind::Txid, h),
+        wtxid: window_as(s, ident::Kind::Wtxid, h),
+    }
+}
+
 // What a plan chooses for the hash h, if nobody owns it.
 pub fn choose_free(s: &[u8], clock: u64, h: ident::Hash) -> Chosen
     requires { Kept s.now }
     ensures { Chooses s.now clock (hash_num h) result }
 {
-    let x = window_as(s, ident::Kind::Txid, h);
-    let y = window_as(s, ident::Kind::Wtxid, h);
-    choose_within(s, clock, x, y)
+    choose_within(s, clock, rows_of(s, h))
 }

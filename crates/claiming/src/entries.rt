@@ -13,10 +13,10 @@ ghost use Rattle.claiming.specs.Claiming.{entry_of, item_answer, OneMore, key_fr
 
 use machine::clock::Clock;
 
-// Bytes of an entry, and its words.
-pub const ENTRY_BYTES: usize = 112;
-
+// Words of an entry, and its bytes.
 pub const ENTRY: usize = 14;
+
+pub const ENTRY_BYTES: usize = 8 * ENTRY;
 
 // Where its fields stand among them, behind the key.
 pub const CONNECTION: usize = 5;

@@ -7,20 +7,17 @@ ghost use Rattle.lent_lists.specs.Lists.{hashes_in};
 use machine::limits::MAX_ASKED_HASHES;
 
 // Bytes of an owner in an answer buffer.
-const OWNER_BYTES: usize = 24;
+const OWNER_BYTES: usize = 8 * super::OWNER;
 
 // Whether each hash is below the next.
 fn ascends(hashes: &[u8]) -> bool
     ensures { result ≡ ascending (hashes_in hashes.now) }
 {
-    for i in 1..lent_lists::hashes(hashes) {
+    (1..lent_lists::hashes(hashes)).all(|i| {
         let a = regions::Quad::from(lent_lists::hash_in(hashes, i - 1));
         let b = regions::Quad::from(lent_lists::hash_in(hashes, i));
-        if !regions::quad_less(a, b) {
-            return false;
-        }
-    }
-    true
+        regions::quad_less(a, b)
+    })
 }
 
 // Whether hashes are too many, or not in strictly ascending order.

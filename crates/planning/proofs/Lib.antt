@@ -2,7 +2,7 @@ pub mod Overdue
 pub mod BareDue
 pub mod RowsDue
 pub mod NextDue
-pub mod Keepings
+pub mod Notings
 pub mod AllExpired
 pub mod Readying
 pub mod Whole

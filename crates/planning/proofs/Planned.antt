@@ -35,7 +35,7 @@ use Rattle.selecting.specs.declared.Scan.{Scan}
 use Rattle.planning.specs.declared.replying.Reply.{Reply}
 use Rattle.selecting.specs.Selecting.{Scanning}
 use Rattle.planning.specs.Expiring.{ExpiresAll}
-use Rattle.planning.specs.Keeping.{KeptPhased}
+use Rattle.planning.specs.Noting.{NotedPhased}
 use Rattle.planning.specs.Replying.{Fresh, Selects, asks, Asks, AsksOf, Begun, BegunTo, Begins, SelectsOf, PlansOf}
 use Rattle.planning.proofs.Whole.{fresh-scan}
 
@@ -52,7 +52,7 @@ expired-parted {now = now} x p =
 pub room_same : {b b' f : List ℕ} {m n : ℕ} → Room b f m n → length b' ≡ length b → Room b' f m n
 room_same r e = record { first = r.first; front = omega (arith, r.front); rest = omega (arith, r.rest) }
 
-pub begun : {b b₁ b₂ b₃ f f₁ f₃ : List ℕ} {m c now e : ℕ} {p p₂ : List ℕ} {v w : Scan} → c ≤ max_places → ExpiresAll b b₁ f f₁ m c now e → Fresh v → KeptPhased b₁ b₂ f₁ m e p p₂ now v w
+pub begun : {b b₁ b₂ b₃ f f₁ f₃ : List ℕ} {m c now e : ℕ} {p p₂ : List ℕ} {v w : Scan} → c ≤ max_places → ExpiresAll b b₁ f f₁ m c now e → Fresh v → NotedPhased b₁ b₂ f₁ m e p p₂ now v w
     → Forgotten b₂ b₃ f₁ f₃ m e → length b₃ ≡ length b₁ → length f₃ ≡ length f₁ → Begins b b₃ f f₃ m c p₂ now w
 begun {b₁ = b₁} {b₂} {b₃} {f₁ = f₁} {f₃} {m} {c} {now} {e} {p} {p₂} {v} {w} few x fr y z nb nf = record {
   near = omega (arith, y.near, fr.considered, x.most);

@@ -1,3 +1,3 @@
 pub mod Expiring
-pub mod Keeping
+pub mod Noting
 pub mod Replying

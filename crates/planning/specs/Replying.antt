@@ -76,8 +76,8 @@ pub record Begun (now : ℕ) (b p : List ℕ) (v : Scan) : Type 0 where
   pub stands : Scanning now state (machine.phase now state.table some-keys machine.start) b p v
 
 -- keys that a first phase has considered at most
-abbrev pub most_kept : ℕ
-most_kept = list_most * max_places
+abbrev pub most_noted : ℕ
+most_noted = list_most * max_places
 
 -- ---- expiry and the first phase, where the places are set apart
 
@@ -91,7 +91,7 @@ pub record BegunTo (b' f' : List ℕ) (m c : ℕ) (st : State) (p' : List ℕ) (
       machine.start) (take m b') p' w
 
 pub record Begins (b b' f f' : List ℕ) (m c : ℕ) (p' : List ℕ) (now : ℕ) (w : Scan) : Type 0 where
-  pub near : w.considered ≤ most_kept
+  pub near : w.considered ≤ most_noted
   pub goes : (st : State) (ps : List Place) → Apart b f m st (resting ps) → c ≡ length ps → BegunTo b' f' m c st p' now w
 
 -- ---- a plan, of every sound state that b write

@@ -2,6 +2,6 @@
 #![tactic(auto)]
 
 pub mod expiring;
-pub mod kept;
+pub mod noted;
 pub mod plan;
 pub mod replying;

@@ -7,7 +7,7 @@ ghost use Rattle.store.specs.Shown.{limit_in, Kept};
 ghost use Rattle.apart.specs.Apart.{Rested};
 ghost use Rattle.planning.specs.Replying.{asked_in, Begins, SelectsOf, PlansOf};
 
-use crate::{expiring, kept, replying};
+use crate::{expiring, noted, replying};
 use apart::SLOT;
 use machine::clock::Clock;
 
@@ -33,7 +33,7 @@ fn begin(
 {
     let e = expiring::expire(s, m, first, c, clock.time);
     let v = replying::fresh();
-    let w = kept::phase_kept(s, m, first, e, clock, picks, v);
+    let w = noted::phase_noted(s, m, first, e, clock, picks, v);
     apart::slots::forget(s, m, first, e);
     w
 }

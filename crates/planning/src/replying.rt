@@ -6,9 +6,10 @@ ghost use Rattle.machine.specs.Limits.{max_request_checks};
 ghost use Rattle.store.specs.Shown.{limit_in};
 ghost use Rattle.selecting.specs.Selecting.{Marked};
 ghost use Rattle.selecting.specs.Phasing.{given_keys};
-ghost use Rattle.planning.specs.Replying.{asked_in, Fresh, Closed, Begun, most_kept, AsksOf};
+ghost use Rattle.planning.specs.Replying.{asked_in, Fresh, Closed, Begun, most_noted, AsksOf};
 
 use machine::clock::Clock;
+use machine::limits::MAX_REQUEST_CHECKS;
 
 // How many entries a plan has, and how many keys it considered.
 #[derive(Clone, Copy)]
@@ -48,18 +49,21 @@ fn close(
     selecting::giving::give_back(s, picks);
 }
 
+// The most that a plan selects: a phase stops behind a key, so one more than it stops at.
+pub const MAX_SELECTED: usize = MAX_REQUEST_CHECKS + 1;
+
 // Room for a number of each selection of a plan.
-pub fn numbers() -> [usize; 1_025]
+pub fn numbers() -> [usize; MAX_SELECTED]
     ensures { length result ≡ max_request_checks + 1 }
 {
-    [0usize; 1_025]
+    [0usize; MAX_SELECTED]
 }
 
 // Room for a key of each.
-fn sort_keys() -> [u64; 1_025]
+fn sort_keys() -> [u64; MAX_SELECTED]
     ensures { length result ≡ max_request_checks + 1 }
 {
-    [0u64; 1_025]
+    [0u64; MAX_SELECTED]
 }
 
 // The same with scratch of its own.
@@ -82,7 +86,7 @@ fn ask_round(
     out: &mut [u8],
 ) -> Reply
     requires { Begun clock.time s.old picks.old v × (max_request_checks < length picks.old)
-        × (entry_bytes * min (max_request_checks + 1) (limit_in s.old) ≤ length out.old) × (v.considered ≤ most_kept) }
+        × (entry_bytes * min (max_request_checks + 1) (limit_in s.old) ≤ length out.old) × (v.considered ≤ most_noted) }
     ensures { AsksOf s.old s.new picks.old out.old out.new clock.time none v result }
 {
     let w = selecting::phase::phase_round(s, clock, picks, v);
@@ -104,7 +108,7 @@ fn ask_given(
     out: &mut [u8],
 ) -> Reply
     requires { Begun clock.time s.old picks.old v × (max_request_checks < length picks.old)
-        × (entry_bytes * min (max_request_checks + 1) (limit_in s.old) ≤ length out.old) × (v.considered ≤ most_kept) }
+        × (entry_bytes * min (max_request_checks + 1) (limit_in s.old) ≤ length out.old) × (v.considered ≤ most_noted) }
     ensures { AsksOf s.old s.new picks.old out.old out.new clock.time (some (given_keys given.now)) v result }
 {
     let w = selecting::phase::phase_given(s, clock, given, picks, v);
@@ -125,7 +129,7 @@ pub fn ask(
     out: &mut [u8],
 ) -> Reply
     requires { Begun clock.time s.old picks.old v × (max_request_checks < length picks.old)
-        × (entry_bytes * min (max_request_checks + 1) (limit_in s.old) ≤ length out.old) × (v.considered ≤ most_kept) }
+        × (entry_bytes * min (max_request_checks + 1) (limit_in s.old) ≤ length out.old) × (v.considered ≤ most_noted) }
     ensures { AsksOf s.old s.new picks.old out.old out.new clock.time (asked_in (λ g. g.now) asked.entry) v result }
 {
     match asked {

@@ -25,13 +25,13 @@ pub fn arrange(s: &[u8], witnesses: &[u8], taken: &[u8], answer: &mut [u8]) -> R
 
 // A part of a list of entries: so many, from the first on. (No `std::ops::Range`: the call in C hands out a first and a count.)
 #[derive(Clone, Copy)]
-pub struct Range {
+pub struct Stretch {
     pub first: usize,
     pub count: usize,
 }
 
 // The connection's part of the arranged list, which is given in 112 bytes an entry. Of a list that is not arranged it is some part.
-pub fn part(list: &[u8], connection: u64) -> Range
+pub fn part(list: &[u8], connection: u64) -> Stretch
     ensures { PartIs connection (entries_in list.now) result.first result.count }
 {
     let n = claiming::entries::entries(list);
@@ -49,7 +49,7 @@ pub fn part(list: &[u8], connection: u64) -> Range
             ensures { result ≡ leb (get_or (words list.entry.now) (i * 14 + 5) 0) connection }
         { words::get(list, i * ENTRY + CONNECTION) <= connection },
     );
-    Range {
+    Stretch {
         first,
         count: end.saturating_sub(first),
     }

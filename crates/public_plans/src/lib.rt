@@ -2,6 +2,9 @@
 // (crates/outcome).
 #![tactic(auto)]
 
+ghost use Rattle.std.specs.Prelude.{◌≡◌};
+ghost use Rattle.public_plans.specs.Entries.{selection_of};
+
 pub mod arrangements;
 pub mod on_sound;
 pub mod ownership;
@@ -14,4 +17,16 @@ pub struct Selection {
     pub considered: u64,
     pub chosen: u64,
     pub next: Option<u64>,
+}
+
+impl From<planning::plan::Planned> for Selection {
+    ghost from_gives = { λ planned s. s ≡ selection_of planned };
+
+    fn from(planned: planning::plan::Planned) -> Selection {
+        Selection {
+            considered: planned.considered,
+            chosen: planned.count as u64,
+            next: planned.next,
+        }
+    }
 }

@@ -1,39 +1,18 @@
 -- Keys read from bytes.
 use Prim.Native.Nat.{ℕ, zero, suc, ◌+◌, ◌-◌, ◌*◌, ◌/◌, ◌≤◌, ◌<◌}
-use mathlib.Core.Path.{◌≡◌, refl, sym, ap, ◌∙◌}
+use mathlib.Core.Path.{◌≡◌, refl, ap, ◌∙◌}
 use mathlib.Core.List.{List, [], ◌∷◌}
 use native.Mathlib.Omega.{arith}
-use lib.Dec.{eqb}
-use borrow.Author.Tests.{ne_eqb}
 use lib.ListN.{length, get_or, take, drop, length-drop, drop_of_length-le}
-use lib.Seq.{take-take, drop-drop, drop-cons, length-take-le, get_or-take, get_or-drop}
-use Rattle.std.specs.Prelude.{if◌then◌else◌}
-use Rattle.ident.specs.declared.Kind.TheVariants.{Txid, Wtxid}
-use Rattle.ident.specs.Number.{top, kind_is}
-use Rattle.words.specs.Words.{number, words, recs}
+use lib.Seq.{drop-cons, length-take-le, get_or-take, get_or-drop}
+use Rattle.ident.specs.Number.{top}
+use Rattle.words.specs.Words.{recs}
 use Rattle.words.proofs.Digits.{number_below}
 use Rattle.words.proofs.Records.{length-recs, recs_at}
-use Rattle.words.proofs.Words.{word_at}
-use Rattle.words.proofs.Moves.{mid as after_front}
 use Rattle.machine.specs.Call.{key_bytes}
 use Rattle.machine.specs.Typed.{Each, KeyTyped}
 use Rattle.lent_lists.specs.Lists.{key_in, keys_in}
 use Rattle.selecting.specs.Phasing.{given_keys}
-use Rattle.claiming.specs.Claiming.{hash_from, key_from}
-
--- the key of 40 bytes
-pub key-given : (b : List ℕ) (i : ℕ) → key_bytes * i + key_bytes ≤ length b → key_from b (i * 5) ≡ key_in (take key_bytes (drop (key_bytes * i) b))
-unfolding key_in
-key-given b i h =
-    let at : 8 * (i * 5) ≡ key_bytes * i = omega arith in
-    let on : (i * 5 + 1) * 8 ≡ key_bytes * i + 8 = omega arith in
-    let long : 8 ≤ length (drop (key_bytes * i) b) = simp length-drop (omega arith) in
-    let x : get_or (words b) (i * 5) 0 ≡ number 256 (take 8 (take key_bytes (drop (key_bytes * i) b))) =
-    word_at b (i * 5) (omega arith) ∙ ap (λ (a : ℕ). number 256 (take 8 (drop a b))) at ∙ ap (number 256) (sym (take-take 8 key_bytes (drop (key_bytes * i) b) (omega arith))) in
-    let y : hash_from b (i * 5 + 1) ≡ number 256 (drop 8 (take key_bytes (drop (key_bytes * i) b))) =
-    ap (λ (a : ℕ). number 256 (take 32 (drop a b))) on ∙ ap (λ (l : List ℕ). number 256 (take 32 l)) (sym (drop-drop 8 (key_bytes * i) b)) ∙ ap (number 256)
-    (sym (after_front 8 32 (drop (key_bytes * i) b) long)) in
-    λ j. record { kind = ap kind_is x j; hash = y j }
 
 -- the next of the keys given, and the end of them
 pub given_next : (b : List ℕ) (i : ℕ) → i < length b / key_bytes → drop i (given_keys b) ≡ key_in (take key_bytes (drop (key_bytes * i) b)) ∷ drop (i + 1) (given_keys b)

@@ -12,6 +12,7 @@ ghost use Rattle.store.specs.Shown.{rows_in, half, Kept};
 ghost use Rattle.choosing.specs.Choosing.{Windows};
 ghost use Rattle.selecting.specs.Selecting.{OneSelected, Considers};
 
+use choosing::HashRows;
 use machine::clock::Clock;
 use machine::limits::{MAX_REQUEST_CHECKS, REQUEST_LIFETIME};
 
@@ -30,20 +31,19 @@ pub struct Scan {
     pub last: Option<ident::Key>,
 }
 
-// Selects what is to be chosen for the hash whose rows stand in x as Txid and in y as Wtxid, if nobody owns it, and remembers its row as
-// the n-th. Answers how many are remembered now.
+// Selects what is to be chosen for the hash whose rows stand there, if nobody owns it, and remembers its row as the n-th. Answers how many are
+// remembered now.
 fn select_within(
     s: &mut [u8],
     clock: Clock,
-    x: requests::Window,
-    y: requests::Window,
+    h: HashRows,
     picks: &mut [usize],
     n: usize,
 ) -> usize
-    requires { Kept s.old × (x.to ≤ rows_in s.old) × (y.to ≤ rows_in s.old) × (n < length picks.old) }
-    ensures { OneSelected s.old s.new picks.old picks.new clock.time x y n result }
+    requires { Kept s.old × (h.txid.to ≤ rows_in s.old) × (h.wtxid.to ≤ rows_in s.old) × (n < length picks.old) }
+    ensures { OneSelected s.old s.new picks.old picks.new clock.time h.txid h.wtxid n result }
 {
-    let Some(p) = choosing::choose_within(s, clock.time, x, y).pick else {
+    let Some(p) = choosing::choose_within(s, clock.time, h).pick else {
         return n;
     };
     let k = announcing::evict::key_of(p.row);
@@ -52,20 +52,19 @@ fn select_within(
     n + 1
 }
 
-// Considers the key k, whose hash has its rows in x as Txid and in y as Wtxid.
+// Considers the key k, whose hash has its rows there.
 fn consider_within(
     s: &mut [u8],
     clock: Clock,
     k: ident::Key,
-    x: requests::Window,
-    y: requests::Window,
+    h: HashRows,
     picks: &mut [usize],
     v: Scan,
 ) -> Scan
-    requires { Kept s.old × Windows s.old (hash_num k.hash) x y × (v.chosen < length picks.old) × (v.considered ≤ half) }
+    requires { Kept s.old × Windows s.old (hash_num k.hash) h.txid h.wtxid × (v.chosen < length picks.old) × (v.considered ≤ half) }
     ensures { Considers s.old s.new picks.old picks.new clock.time (key_num k) v result }
 {
-    let chosen = select_within(s, clock, x, y, picks, v.chosen);
+    let chosen = select_within(s, clock, h, picks, v.chosen);
     Scan {
         chosen,
         considered: v.considered + 1,
@@ -79,9 +78,8 @@ pub fn consider(s: &mut [u8], clock: Clock, k: ident::Key, picks: &mut [usize], 
     requires { Kept s.old × (v.chosen < length picks.old) × (v.considered ≤ half) }
     ensures { Considers s.old s.new picks.old picks.new clock.time (key_num k) v result }
 {
-    let x = choosing::window_as(s, ident::Kind::Txid, k.hash);
-    let y = choosing::window_as(s, ident::Kind::Wtxid, k.hash);
-    consider_within(s, clock, k, x, y, picks, v)
+    let h = choosing::rows_of(s, k.hash);
+    consider_within(s, clock, k, h, picks, v)
 }
 
 // A scan that walks over the rows, and where the rows of the last hash end under each kind.
@@ -105,8 +103,9 @@ pub fn consider_next(
 {
     let x = near::window_near(s, ident::Kind::Txid, k.hash, v.txid);
     let y = near::window_near(s, ident::Kind::Wtxid, k.hash, v.wtxid);
+    let h = HashRows { txid: x, wtxid: y };
     Walk {
-        scan: consider_within(s, clock, k, x, y, picks, v.scan),
+        scan: consider_within(s, clock, k, h, picks, v.scan),
         txid: x.to,
         wtxid: y.to,
     }

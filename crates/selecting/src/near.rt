@@ -17,10 +17,7 @@ fn begin_at(s: &[u8], n: usize, start: Bound<regions::Key>, guess: usize) -> usi
     requires { 8 * (row_size * n) ≤ length s.now }
     ensures { Behind (recs row_size row_key n (words s.now)) n (start_number start) result }
 {
-    if guess == 0 {
-        return 0;
-    }
-    if n < guess {
+    if guess == 0 || n < guess {
         return 0;
     }
     if regions::falls_short(regions::key_at(s, guess - 1), start) {

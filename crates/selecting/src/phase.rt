@@ -1,14 +1,11 @@
 // The phases of a plan's scan (document 01, "plan"): the given keys, or all keys after the ready cursor and round to it. "After a key, a
 // phase stops at 1,024 selected".
-ghost use Rattle.std.specs.Prelude.{◌≡◌, [], false, ◌+◌, ◌-◌, ◌*◌, ◌≤◌, ◌<◌, length, take, drop};
-ghost use Rattle.ident.specs.Words.{key_num};
-ghost use Rattle.machine.specs.Call.{key_bytes};
+ghost use Rattle.std.specs.Prelude.{◌≡◌, [], false, ◌+◌, ◌-◌, ◌≤◌, ◌<◌, length};
 ghost use Rattle.machine.specs.Limits.{max_request_checks};
 ghost use Rattle.machine.specs.Sweep.{round};
 ghost use Rattle.machine.specs.Table.{keys};
 ghost use Rattle.store.specs.Flat.{rows_of};
 ghost use Rattle.store.specs.Shown.{rows_in, half, Kept};
-ghost use Rattle.lent_lists.specs.Lists.{key_in};
 ghost use Rattle.sweeping.specs.Batches.{keys_over};
 ghost use Rattle.selecting.specs.Phasing.{key_count, given_keys, Roomy, Scans, Phased};
 
@@ -27,15 +24,7 @@ pub fn opened(v: crate::Scan) -> crate::Scan
 fn keys(b: &[u8]) -> usize
     ensures { result ≡ key_count b.now }
 {
-    b.len() / 40
-}
-
-// The i-th key of the bytes.
-fn key_in(b: &[u8], i: usize) -> ident::Key
-    requires { key_bytes * i + key_bytes ≤ length b.now }
-    ensures { key_num result ≡ key_in (take key_bytes (drop (key_bytes * i) b.now)) }
-{
-    claiming::entries::key_at(b, i * 5)
+    b.len() / lent_lists::KEY
 }
 
 // Considers the keys that the bytes hold, in order.
@@ -55,7 +44,7 @@ fn keys_given(
         if w.full {
             return w;
         }
-        w = crate::consider(s, clock, key_in(given, i), picks, w);
+        w = crate::consider(s, clock, lent_lists::key_at(given, i), picks, w);
     }
     w
 }

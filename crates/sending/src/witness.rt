@@ -38,13 +38,7 @@ fn marked(s: &[u8], k: ident::Key) -> bool
 pub fn listed(list: &[u8], connection: u64) -> bool
     ensures { result ≡ elem connection (words list.now) }
 {
-    let count = list.len() / 8;
-    for i in 0..count {
-        if words::get(list, i) == connection {
-            return true;
-        }
-    }
-    false
+    (0..list.len() / 8).any(|i| words::get(list, i) == connection)
 }
 
 // The same, looked up if it is not known.

@@ -1,5 +1,5 @@
+pub mod Lent
 pub mod Known
 pub mod Tests
-pub mod Polling
 pub mod Rounds
 pub mod Walking

@@ -1,5 +1,5 @@
 // sweep (the Rust's known_batch) and the poll gate, on the bytes of a sound store (document 01, module 6).
-#![tactic(auto)]
+#![tactic(auto, using(requests::proofs::Keeping::kept_shown, crate::proofs::Lent::kept_head))]
 
 ghost use Rattle.std.specs.Prelude.{min, ◌*◌, ◌≤◌, length};
 ghost use Rattle.machine.specs.Limits.{max_known_checks};

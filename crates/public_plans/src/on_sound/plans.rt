@@ -1,10 +1,9 @@
 // plan and claim on a sound store.
 ghost use Rattle.std.specs.Prelude.{◌≡◌, min, ◌+◌, ◌*◌, length};
-ghost use Rattle.std.proofs.Math.Option.{none, some};
 ghost use Rattle.machine.specs.Limits.{max_request_checks};
 ghost use Rattle.machine.specs.Call.{On, Plan, Claim, entry_bytes};
 ghost use Rattle.claiming.specs.Claiming.{entries_in};
-ghost use Rattle.selecting.specs.Phasing.{given_keys};
+ghost use Rattle.planning.specs.Replying.{asked_in};
 ghost use Rattle.store.specs.Image.{SoundStore};
 ghost use Rattle.outcome.specs.Outcome.{LeavesWith};
 ghost use Rattle.public_plans.specs.Entries.{entries_of, planned_of};
@@ -12,6 +11,7 @@ ghost use Rattle.public_plans.specs.Entries.{entries_of, planned_of};
 use crate::Selection;
 use claiming::entries::ENTRY_BYTES;
 use outcome::{Refusal, refusals};
+use planning::replying::MAX_SELECTED;
 
 // The bytes that an answer may need that has some of a list's entries: the length in entries.
 pub fn list_needs(list: &[u8]) -> usize
@@ -31,53 +31,27 @@ pub fn claim(s: &mut [u8], clock: u64, checked: &[u8], answer: &mut [u8]) -> Res
     Ok(taken as u64)
 }
 
-// The most that a plan selects: 1,024, and one more.
-const MAX_SELECTED: usize = 1_025;
-
 // The bytes that its answer may need: min(1,025, L) entries.
 fn plan_needs(s: &[u8]) -> usize
     requires { SoundStore s.now }
     ensures { (w : SoundStore s.now) → result ≡ entry_bytes * min (max_request_checks + 1) w.state.limit }
 {
-    let l = store::head::limit(s);
-    if l < MAX_SELECTED {
-        return l * ENTRY_BYTES;
-    }
-    MAX_SELECTED * ENTRY_BYTES
+    MAX_SELECTED.min(store::head::limit(s)) * ENTRY_BYTES
 }
 
-pub fn plan(s: &mut [u8], clock: u64, answer: &mut [u8]) -> Result<Selection, Refusal>
-    requires { SoundStore s.old }
-    ensures { LeavesWith (On (Plan clock none answer.old)) s.old s.new answer.new (planned_of result) }
-{
-    let needs = plan_needs(s);
-    let clock = refusals::of_clock_and_buffer(clock, answer.len(), needs)?;
-    let n = refusals::need_of(s);
-    let r = planning::plan::plan(&mut s[..n], clock, None, answer);
-    Ok(Selection {
-        considered: r.considered,
-        chosen: r.count as u64,
-        next: r.next,
-    })
-}
-
-// As `plan`, over the keys given: the bodies differ in these alone. What a plan does stands once, in `planning::plan::plan` over an Option.
-pub fn plan_given(
+// Over the keys that given bytes hold, or over all.
+pub fn plan(
     s: &mut [u8],
     clock: u64,
-    given: &[u8],
+    asked: Option<&[u8]>,
     answer: &mut [u8],
 ) -> Result<Selection, Refusal>
     requires { SoundStore s.old }
-    ensures { LeavesWith (On (Plan clock (some (given_keys given.now)) answer.old)) s.old s.new answer.new (planned_of result) }
+    ensures { LeavesWith (On (Plan clock (asked_in (λ g. g.now) asked.entry) answer.old)) s.old s.new answer.new (planned_of result) }
 {
     let needs = plan_needs(s);
     let clock = refusals::of_clock_and_buffer(clock, answer.len(), needs)?;
     let n = refusals::need_of(s);
-    let r = planning::plan::plan(&mut s[..n], clock, Some(given), answer);
-    Ok(Selection {
-        considered: r.considered,
-        chosen: r.count as u64,
-        next: r.next,
-    })
+    let planned = planning::plan::plan(&mut s[..n], clock, asked, answer);
+    Ok(Selection::from(planned))
 }

@@ -3,9 +3,6 @@ use Rattle.requests.proofs.Keeping.{kept_shown}
 use Rattle.sweeping.proofs.Walking.{batched}
 use Rattle.sweeping.proofs.known_batch.Goals as goal
 
-pub rows-n-requires : goal.rows-n-requires
-rows-n-requires c = let z = (kept_shown c.requires.0).sizes in omega arith
-
 pub keys_in-v-requires : goal.keys_in-v-requires
 keys_in-v-requires c =
     let k = kept_shown c.requires.0 in

@@ -9,8 +9,8 @@ use Rattle.planning.proofs.plan.begin.Goals as goal
 pub expire-e-requires : goal.expire-e-requires
 expire-e-requires c = c.requires.0
 
-pub phase_kept-w-requires : goal.phase_kept-w-requires
-phase_kept-w-requires c = let x = expired-parted c.expire-e.ensures c.requires.0 in let n = rested_few c.requires.0 in (
+pub phase_noted-w-requires : goal.phase_noted-w-requires
+phase_noted-w-requires c = let x = expired-parted c.expire-e.ensures c.requires.0 in let n = rested_few c.requires.0 in (
   all_room x.apart (omega (arith, c.expire-e.ensures.most, x.count)),
   front_kept x.apart,
   c.requires.1,
@@ -24,8 +24,8 @@ forget-requires c = let x = expired-parted c.expire-e.ensures c.requires.0 in ro
       arith,
       c.expire-e.ensures.most,
       x.count,
-    ))) c.phase_kept-w.auto.s
+    ))) c.phase_noted-w.auto.s
 
 pub returns : goal.returns
 returns c = begun (rested_few c.requires.0) c.expire-e.ensures c.fresh-v.ensures
-    c.phase_kept-w.ensures c.forget.ensures (c.forget.auto.s ∙ c.phase_kept-w.auto.s) (search rules)
+    c.phase_noted-w.ensures c.forget.ensures (c.forget.auto.s ∙ c.phase_noted-w.auto.s) (search rules)

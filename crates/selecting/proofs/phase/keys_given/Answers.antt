@@ -29,8 +29,8 @@ shape_of-picks-then-w c = c.loop-i.invariant.2
 pub returns-then-w : goal.returns-then-w
 returns-then-w c = scans_full c.loop-i.invariant.3 (λ st. []) _ c.loop-i.invariant.0 c.if-w.true
 
-pub key_in-requires : goal.key_in-requires
-key_in-requires c = omega (arith, c.loop-i-test.true, c.keys-count.ensures)
+pub key_at-requires : goal.key_at-requires
+key_at-requires c = omega (arith, c.loop-i-test.true, c.keys-count.ensures)
 
 pub consider-w-requires : goal.consider-w-requires
 consider-w-requires c =
@@ -55,7 +55,7 @@ loop-i-preserved c =
       c.loop-i-test.true,
       c.keys-count.ensures,
     ) in
-    let next = given_next b i less ∙ ap (λ (k : Key). k ∷ drop (i + 1) (given_keys b)) (sym c.key_in.ensures) in (
+    let next = given_next b i less ∙ ap (λ (k : Key). k ∷ drop (i + 1) (given_keys b)) (sym c.key_at.ensures) in (
       omega (arith, less),
       c.consider-w.auto.s ∙ c.loop-i.invariant.1,
       c.consider-w.auto.picks ∙ c.loop-i.invariant.2,

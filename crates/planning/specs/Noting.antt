@@ -25,13 +25,13 @@ pub record PlaceScans (b b' f : List ℕ) (m i : ℕ) (p p' : List ℕ) (now : �
   pub goes : (Q : ℕ) (xs : List Slot) (d : Slot) → i < length xs → Slots b f m Q xs → Short (plain xs) → Scans (take m b) (take m b') p p' now (λ st. noted_of (get_or xs i d)) (λ st. []) v w list_most
 
 -- of e places those noted of the first i
-pub record KeptScans (b b' f : List ℕ) (m e i : ℕ) (p p' : List ℕ) (now : ℕ) (v w : Scan) : Type 0 where
+pub record NotedScans (b b' f : List ℕ) (m e i : ℕ) (p p' : List ℕ) (now : ℕ) (v w : Scan) : Type 0 where
   pub ahead : Ahead b b' m (list_most * i) v w
   pub goes : (Q : ℕ) (xs : List Slot) → e ≤ length xs → Slots b f m Q xs → Short (plain xs)
       → Scans (take m b) (take m b') p p' now (λ st. noted xs) (λ st. noted (drop i xs)) v w (list_most * i)
 
 -- a whole phase over them
-pub record KeptPhased (b b' f : List ℕ) (m e : ℕ) (p p' : List ℕ) (now : ℕ) (v w : Scan) : Type 0 where
+pub record NotedPhased (b b' f : List ℕ) (m e : ℕ) (p p' : List ℕ) (now : ℕ) (v w : Scan) : Type 0 where
   pub rest : drop m b' ≡ drop m b
   pub kept : Kept (take m b')
   pub near : w.considered ≤ v.considered + list_most * e

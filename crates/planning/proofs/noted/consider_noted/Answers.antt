@@ -1,9 +1,9 @@
--- `planning::kept::consider_noted` meets its contract.
+-- `planning::noted::consider_noted` meets its contract.
 use mathlib.Core.Path.{refl, sym, subst}
 use Rattle.store.specs.Shown.{Kept}
 use Rattle.apart.proofs.Overdue.{front_lent}
-use Rattle.planning.proofs.Keepings.{both_zero, place-clear, place-scanned}
-use Rattle.planning.proofs.kept.consider_noted.Goals as goal
+use Rattle.planning.proofs.Notings.{both_zero, place-clear, place-scanned}
+use Rattle.planning.proofs.noted.consider_noted.Goals as goal
 
 pub returns-then-low-high : goal.returns-then-low-high
 returns-then-low-high c = let z = both_zero c.note_at-note.result.low c.note_at-note.result.high c.if-low-high.true in place-clear c.note_at-note.ensures z.0 z.1 c.requires.1 c.requires.3

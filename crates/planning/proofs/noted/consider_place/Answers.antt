@@ -1,4 +1,4 @@
--- `planning::kept::consider_place` meets its contract.
+-- `planning::noted::consider_place` meets its contract.
 use mathlib.Core.Path.{refl}
 use mathlib.Core.List.{[]}
 use native.Mathlib.Omega.{arith}
@@ -7,7 +7,7 @@ use Rattle.places.specs.Places.{list_most}
 use Rattle.apart.specs.Noting.{hashes_at, picked_in}
 use Rattle.apart.proofs.Notes.{both_halves}
 use Rattle.selecting.proofs.Walked.{scans_as, scans_for, scans_both}
-use Rattle.planning.proofs.kept.consider_place.Goals as goal
+use Rattle.planning.proofs.noted.consider_place.Goals as goal
 
 pub consider_bits-requires : goal.consider_bits-requires
 consider_bits-requires c = let x = c.consider_bits-x.ensures in let h = c.first_half-e.ensures in (

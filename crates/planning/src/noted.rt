@@ -9,7 +9,7 @@ ghost use Rattle.store.specs.Shown.{half, Kept};
 ghost use Rattle.apart.specs.Apart.{Room};
 ghost use Rattle.apart.specs.Noting.{hashes_at, picked, picked_in};
 ghost use Rattle.selecting.specs.Phasing.{Roomy, Scans};
-ghost use Rattle.planning.specs.Keeping.{PlaceScans, KeptScans, KeptPhased};
+ghost use Rattle.planning.specs.Noting.{PlaceScans, NotedScans, NotedPhased};
 
 use apart::SLOT;
 use machine::clock::Clock;
@@ -89,7 +89,7 @@ fn consider_noted(
 }
 
 // Considers the parents that are noted of the first e places.
-fn keys_kept(
+fn keys_noted(
     s: &mut [u8],
     m: usize,
     first: &[u8; SLOT],
@@ -99,7 +99,7 @@ fn keys_kept(
     v: selecting::Scan,
 ) -> selecting::Scan
     requires { Room s.old first.now m e × Kept (take m s.old) × (max_request_checks < length picks.old) × Roomy v × (v.considered + list_most * e ≤ half) }
-    ensures { KeptScans s.old s.new first.now m e e picks.old picks.new clock.time v result }
+    ensures { NotedScans s.old s.new first.now m e e picks.old picks.new clock.time v result }
 {
     let mut w = v;
     for i in 0..e {
@@ -112,7 +112,7 @@ fn keys_kept(
 }
 
 // The phase over them.
-pub fn phase_kept(
+pub fn phase_noted(
     s: &mut [u8],
     m: usize,
     first: &[u8; SLOT],
@@ -123,8 +123,8 @@ pub fn phase_kept(
 ) -> selecting::Scan
     requires { Room s.old first.now m e × Kept (take m s.old) × (max_request_checks < length picks.old) × (v.chosen ≤ max_request_checks)
         × (v.considered + list_most * e ≤ half) }
-    ensures { KeptPhased s.old s.new first.now m e picks.old picks.new clock.time v result }
+    ensures { NotedPhased s.old s.new first.now m e picks.old picks.new clock.time v result }
 {
     let w = selecting::phase::opened(v);
-    keys_kept(s, m, first, e, clock, picks, w)
+    keys_noted(s, m, first, e, clock, picks, w)
 }

@@ -1,13 +1,13 @@
--- `planning::kept::phase_kept` meets its contract.
+-- `planning::noted::phase_noted` meets its contract.
 use native.Mathlib.Omega.{arith}
 use mathlib.Core.Path.{ap}
 use Rattle.selecting.specs.declared.Scan.{Scan}
 use Rattle.selecting.proofs.Walked.{opened-roomy}
-use Rattle.planning.proofs.Keepings.{kept_phased}
-use Rattle.planning.proofs.kept.phase_kept.Goals as goal
+use Rattle.planning.proofs.Notings.{noted_phased}
+use Rattle.planning.proofs.noted.phase_noted.Goals as goal
 
-pub keys_kept-requires : goal.keys_kept-requires
-keys_kept-requires c = (
+pub keys_noted-requires : goal.keys_noted-requires
+keys_noted-requires c = (
   c.requires.0,
   c.requires.1,
   c.requires.2,
@@ -20,4 +20,4 @@ keys_kept-requires c = (
 )
 
 pub returns : goal.returns
-returns c = kept_phased c.opened-w.ensures c.keys_kept.ensures
+returns c = noted_phased c.opened-w.ensures c.keys_noted.ensures

@@ -1,4 +1,4 @@
--- `planning::kept::consider_bits` meets its contract.
+-- `planning::noted::consider_bits` meets its contract.
 use Prim.Native.Nat.{◌+◌, ◌-◌, ◌/◌, ◌≤◌}
 use mathlib.Core.Path.{refl, ◌∙◌}
 use mathlib.Core.List.{[]}
@@ -6,9 +6,9 @@ use native.Mathlib.Omega.{arith}
 use Rattle.words.specs.Words.{words}
 use Rattle.apart.specs.Noting.{hashes_at, picked}
 use Rattle.selecting.proofs.Walked.{scans_start, scans_as, scans_full, scans_more}
-use Rattle.planning.proofs.Keepings.{bit-set, bit-clear, bits_done}
-use Rattle.planning.proofs.kept.consider_bits.Goals.{then-left-eq1, else-left-eq1}
-use Rattle.planning.proofs.kept.consider_bits.Goals as goal
+use Rattle.planning.proofs.Notings.{bit-set, bit-clear, bits_done}
+use Rattle.planning.proofs.noted.consider_bits.Goals.{then-left-eq1, else-left-eq1}
+use Rattle.planning.proofs.noted.consider_bits.Goals as goal
 
 pub loop-j-init : goal.loop-j-init
 loop-j-init c = let z : 0 ≤ c.args.from - c.args.from = omega arith in (
