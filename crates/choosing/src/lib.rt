@@ -4,7 +4,7 @@
 // The rows of a key are scanned from the last to the first, so that what has been found is the choice among the rows from here on.
 //
 // A row's bits are read as `regions::Row` says.
-#![tactic(auto)]
+#![tactic(auto, using(requests::proofs::Keeping::kept_shown))]
 
 ghost use Rattle.std.specs.Prelude.{◌≡◌, [], ◌-◌, ◌/◌, ◌%◌, ◌≤◌};
 ghost use Rattle.ident.specs.Words.{hash_num};

@@ -4,17 +4,10 @@ use mathlib.Core.List.{[]}
 use Rattle.ident.specs.Number.{txid, wtxid}
 use Rattle.machine.specs.Plan as machine
 use Rattle.store.specs.Flat.{flat_of}
-use Rattle.requests.proofs.Keeping.{kept_shown}
 use Rattle.choosing.proofs.Keyed.{window-owned, least_free, of_both, choice-owned, choice-free}
 use Rattle.choosing.proofs.Waiting.{window-wait, wait-owned, wait-free}
 use Rattle.choosing.proofs.choose_within.Goals.{then-owned_in-via-then-owned_in, then-owned_in-via-else-owned_in+then-owned_in-2}
 use Rattle.choosing.proofs.choose_within.Goals as goal
-
-pub owned_in-requires : goal.owned_in-requires
-owned_in-requires c = (kept_shown c.requires.0, c.requires.1)
-
-pub owned_in-requires-else-owned_in : goal.owned_in-requires-else-owned_in
-owned_in-requires-else-owned_in c = (kept_shown c.requires.0, c.requires.2)
 
 pub returns-then-owned_in : goal.returns-then-owned_in
 returns-then-owned_in c = elim c.then-owned_in.branch [
@@ -39,12 +32,6 @@ returns-then-owned_in c = elim c.then-owned_in.branch [
         (window-owned st s w (wtxid h) y.small refl y.spans (k.owned_in-else-owned_in.ensures (flat_of st) w)) k.if-owned_in-2.true refl;
   }
 ]
-
-pub wait_in-a-requires : goal.wait_in-a-requires
-wait_in-a-requires c = (kept_shown c.requires.0, c.requires.1)
-
-pub wait_in-b-requires : goal.wait_in-b-requires
-wait_in-b-requires c = (kept_shown c.requires.0, c.requires.2)
 
 pub returns : goal.returns
 returns c =

@@ -1,14 +1,10 @@
 -- `choosing::least_in` meets its contract.
-use Prim.Native.Nat.{ℕ, ◌-◌}
-use mathlib.Core.Path.{◌≡◌, ap, ◌∙◌}
+use Prim.Native.Nat.{◌-◌}
 use mathlib.Core.List.{[]}
 use native.Mathlib.Omega.{arith}
 use Rattle.machine.specs.Plan as machine
 use Rattle.store.specs.Flat.{flat_of, rows_of}
 use Rattle.store.proofs.Frame.{sizes}
-use Rattle.requests.proofs.Keeping.{kept_shown}
-use Rattle.announcing.specs.Evicts.{part}
-use Rattle.choosing.specs.Choosing.{least_rows}
 use Rattle.choosing.proofs.Scanned.{least_none, least_step}
 use Rattle.choosing.proofs.least_in.Goals as goal
 
@@ -19,9 +15,6 @@ loop-i-init c = (
   λ st s w. least_none (rows_of st.table) (machine.able c.args.clock st.table []) c.args.x.to c.args.x.to (omega arith),
   λ f w. tt,
 )
-
-pub row_at-r-requires : goal.row_at-r-requires
-row_at-r-requires c = (kept_shown c.requires.0, omega arith)
 
 pub loop-i-preserved : goal.loop-i-preserved
 loop-i-preserved c = (
@@ -41,10 +34,3 @@ loop-i-preserved c = (
         row_is = λ d. c.row_at-r.ensures f d w;
       }) (c.loop-i.invariant.3 f w),
 )
-
-pub returns : goal.returns
-returns c = record {
-  is = λ st s w. let e : c.loop-i.i ≡ c.args.x.from = omega arith in c.loop-i.invariant.2 st s w ∙ ap
-      (λ (i : ℕ). least_rows (machine.able c.args.clock st.table []) (part i c.args.x.to (rows_of st.table))) e;
-  found = c.loop-i.invariant.3;
-}

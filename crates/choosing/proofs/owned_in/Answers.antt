@@ -1,15 +1,9 @@
 -- `choosing::owned_in` meets its contract.
-use mathlib.Core.Path.{refl, sym, ◌∙◌}
+use mathlib.Core.Path.{sym, ◌∙◌}
 use native.Mathlib.Omega.{arith}
 use Rattle.store.proofs.Frame.{sizes}
 use Rattle.choosing.proofs.Scanned.{owns_none, owns_here, owns-later}
 use Rattle.choosing.proofs.owned_in.Goals as goal
-
-pub loop-i-init : goal.loop-i-init
-loop-i-init c = (c.args.x.order, λ f w. refl)
-
-pub row_at-r-requires : goal.row_at-r-requires
-row_at-r-requires c = (c.requires.0, omega arith)
 
 pub returns-then-owns : goal.returns-then-owns
 returns-then-owns c = λ f w.

@@ -8,9 +8,6 @@ use Rattle.choosing.proofs.later.wait_in.Goals as goal
 pub loop-i-init : goal.loop-i-init
 loop-i-init c = (c.args.x.order, omega arith, λ f w. waits_none c.args.clock f.rows c.args.x.to c.args.x.to (omega arith))
 
-pub row_at-r-requires : goal.row_at-r-requires
-row_at-r-requires c = (c.requires.0, omega (arith, c.requires.1))
-
 pub loop-i-preserved : goal.loop-i-preserved
 loop-i-preserved c = (
   omega arith,
