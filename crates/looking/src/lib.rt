@@ -4,7 +4,7 @@
 // since a row further on may own the request.
 //
 // A row's bits are read as `regions::Row` says.
-#![tactic(auto)]
+#![tactic(auto, using(requests::proofs::Keeping::kept_shown, sweeping::proofs::Lent::kept_head))]
 
 ghost use Rattle.std.specs.Prelude.{ℕ, ◌≡◌, ◌+◌, ◌≤◌, ◌<◌, List, [], ◌∷◌};
 ghost use Rattle.std.proofs.Math.Option.{Option, none};

@@ -1,5 +1,5 @@
 -- The test of a list of hashes, from pair to pair.
-use Prim.Native.Nat.{ℕ, ◌+◌, ◌≤◌, ◌<◌}
+use Prim.Native.Nat.{ℕ, zero, suc, ◌+◌, ◌-◌, ◌≤◌, ◌<◌}
 use mathlib.Core.Path.{◌≡◌, refl, sym, ap, ◌∙◌}
 use mathlib.Core.Bool.{Bool, true, false, ◌&&◌}
 use mathlib.Core.List.{List, [], ◌∷◌}
@@ -8,6 +8,7 @@ use native.Mathlib.Omega.{arith}
 use lib.Dec.{ltb}
 use lib.ListN.{length, drop, get_or, length-drop}
 use lib.Seq.{drop-cons}
+use Rattle.std.specs.List.{list_all, range_with_len}
 use Rattle.ident.specs.declared.Hash.{Hash}
 use Rattle.ident.specs.Number.{top}
 use Rattle.ident.specs.Words.{hash_num}
@@ -16,6 +17,7 @@ use Rattle.regions.specs.Rows.{quad_number}
 use Rattle.regions.proofs.Order.{number_quad}
 use Rattle.regions.specs.Keys.{Words}
 use Rattle.machine.specs.Owners.{ascending}
+use Rattle.owners.specs.Walk.{above_last}
 
 -- ---- a hash as four words
 
@@ -49,10 +51,12 @@ short (a ∷ (b ∷ l)) h = absurd (omega arith)
 pub ended : (hs : List ℕ) (i : ℕ) → length hs ≤ i + 1 → ascending (drop i hs) ≡ true
 ended hs i h = short (drop i hs) (omega (arith, length-drop i hs))
 
--- a pair in order, and one that is not
-pub goes_on_lem : (hs : List ℕ) (i : ℕ) {b : Bool} → i + 1 < length hs → ascending hs ≡ ascending (drop i hs) → b ≡ ltb (get_or hs i 0) (get_or hs (i + 1) 0) → b ≡ true
-    → ascending hs ≡ ascending (drop (i + 1) hs)
-goes_on_lem hs i l e p t = e ∙ step hs i l ∙ ap (λ (x : Bool). x && ascending (drop (i + 1) hs)) (sym p ∙ t)
+ascends_from : (hs : List ℕ) (n i : ℕ) → i + 1 + n ≡ length hs → list_all (above_last hs) (range_with_len (i + 1) n) ≡ ascending (drop i hs)
+ascends_from hs zero i h = sym (ended hs i (omega arith))
+ascends_from hs (suc n) i h =
+    let e : i + 1 - 1 ≡ i = omega arith in
+    rw e (ap (λ (x : Bool). ltb (get_or hs i 0) (get_or hs (i + 1) 0) && x) (ascends_from hs n (i + 1) (omega arith)) ∙ sym (step hs i (omega arith)))
 
-pub breaks : (hs : List ℕ) (i : ℕ) {b : Bool} → i + 1 < length hs → ascending hs ≡ ascending (drop i hs) → b ≡ ltb (get_or hs i 0) (get_or hs (i + 1) 0) → b ≡ false → false ≡ ascending hs
-breaks hs i l e p t = sym (e ∙ step hs i l ∙ ap (λ (x : Bool). x && ascending (drop (i + 1) hs)) (sym p ∙ t))
+pub ascends_by : (hs : List ℕ) (n : ℕ) → length hs - 1 ≡ n → list_all (above_last hs) (range_with_len 1 n) ≡ ascending hs
+ascends_by hs zero h = sym (ended hs 0 (omega arith))
+ascends_by hs (suc n) h = ascends_from hs (suc n) 0 (omega arith)

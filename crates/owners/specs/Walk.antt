@@ -1,6 +1,6 @@
 -- What the contracts of the walk along the rows say.
 use Rattle.std.specs.Prelude as rust
-use Rattle.std.specs.Prelude.{ℕ, suc, ◌+◌, ◌≤◌, ◌<◌, ◌≡◌, List, [], ◌∷◌, eqb, if◌then◌else◌}
+use Rattle.std.specs.Prelude.{ℕ, suc, ◌+◌, ◌-◌, ◌≤◌, ◌<◌, ◌≡◌, Bool, List, [], ◌∷◌, eqb, ltb, get_or, if◌then◌else◌}
 use Rattle.std.proofs.Math.Option.{Option, none}
 use Rattle.ident.specs.Number.{top, kind_number}
 use Rattle.regions.specs.declared.Row.{Row}
@@ -17,6 +17,10 @@ use Rattle.announcing.specs.Evicts.{part}
 use Rattle.sweeping.specs.Batches.{keys_over}
 use Rattle.owners.specs.declared.Owner.{Owner}
 use Rattle.owners.specs.declared.Stretch.{Stretch}
+
+-- whether the i-th of these hashes is above the one before it
+abbrev pub above_last : List ℕ → ℕ → Bool
+above_last hs i = ltb (get_or hs (i - 1) 0) (get_or hs i 0)
 
 -- the words of an owner in an answer, and of none
 abbrev pub owner_words : rust.Option Owner → List ℕ

@@ -4,7 +4,7 @@
 //
 // The numbers stand in memory that a caller lends (picks; there is no heap), as many as the scan's `chosen` says. They are no struct: with a lend in it, each contract
 // would have to say that it is the same lend. What one phase's scans have room for (`Roomy`) is a clause and no ghost field, since `consider` takes any scan.
-#![tactic(auto)]
+#![tactic(auto, using(requests::proofs::Keeping::kept_shown, sweeping::proofs::Lent::kept_head))]
 
 ghost use Rattle.std.specs.Prelude.{◌+◌, ◌≤◌, ◌<◌, length};
 ghost use Rattle.ident.specs.Words.{hash_num, key_num};

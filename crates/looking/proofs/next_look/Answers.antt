@@ -1,9 +1,8 @@
 -- `looking::next_look` meets its contract.
-use Prim.Native.Nat.{ℕ, ◌+◌, ◌-◌}
+use Prim.Native.Nat.{ℕ, ◌-◌}
 use native.Mathlib.Omega.{arith}
 use Rattle.store.specs.Flat.{flat_of, rows_of}
 use Rattle.store.specs.Gather.{gather}
-use Rattle.requests.proofs.Keeping.{kept_shown}
 use Rattle.announcing.specs.Evicts.{part}
 use mathlib.Core.Path.{◌≡◌, refl}
 use mathlib.Core.List.{[]}
@@ -16,23 +15,11 @@ start : (now : ℕ) → none ≡ next_look now []
 unfolding least_later times
 start now = refl
 
-pub rows-n-requires : goal.rows-n-requires
-rows-n-requires c = let z = (kept_shown c.requires).sizes.long in omega (arith, z)
-
 pub loop-i-init : goal.loop-i-init
 loop-i-init c = (
   omega arith,
   λ f w. looks_start c.args.clock c.rows-n.result f.rows c.rows-n.result c.before_rows-v.result (omega arith)
       (c.before_rows-v.ensures c.args.clock [] (start c.args.clock)),
-)
-
-pub turn-v-requires : goal.turn-v-requires
-turn-v-requires c = (kept_shown c.requires, omega arith, omega (arith, c.rows-n.ensures.word))
-
-pub loop-i-preserved : goal.loop-i-preserved
-loop-i-preserved c = (
-  omega arith,
-  λ f w. let e : c.loop-i.i - 1 + 1 ≡ c.loop-i.i = omega arith in c.turn-v.ensures f w (rw (← e) at (c.loop-i.invariant.1 f w)),
 )
 
 pub returns : goal.returns

@@ -1,31 +1,12 @@
 -- `owners::owners_of` meets its contract.
 use native.Mathlib.Omega.{arith}
-use Rattle.requests.proofs.Keeping.{kept_shown}
 use Rattle.owners.proofs.Entries.{first_is}
 use Rattle.owners.proofs.Listed.{quad_is, quad_small}
 use Rattle.owners.proofs.Turns.{walking_start, walking_more, walking_done}
 use Rattle.owners.proofs.owners_of.Goals as goal
 
-pub rows-n-requires : goal.rows-n-requires
-rows-n-requires c = let z = (kept_shown c.requires.0).sizes in omega arith
-
 pub loop-p-init : goal.loop-p-init
 loop-p-init c = walking_start _ _ _ _ c.first_wtxid-m.ensures
-
-pub along-a-requires : goal.along-a-requires
-along-a-requires c = (
-  kept_shown c.requires.0,
-  c.loop-p.invariant.first,
-  c.first_wtxid-m.ensures.most,
-)
-
-pub along-b-requires : goal.along-b-requires
-along-b-requires c =
-    let w = c.rows-n.ensures.word in (
-      kept_shown c.requires.0,
-      omega (arith, c.loop-p.invariant.second, w),
-      omega (arith, w),
-    )
 
 pub loop-p-preserved : goal.loop-p-preserved
 loop-p-preserved c =

@@ -1,28 +1,18 @@
--- `owners::list::ascends` meets its contract.
-use Prim.Native.Nat.{◌+◌, ◌-◌}
-use mathlib.Core.Path.{◌≡◌, sym, ◌∙◌}
-use native.Mathlib.Omega.{arith}
-use lib.Dec.{ltb}
+-- `owners::list::ascends` meets its contract: a scan of the pairs.
+use Prim.Native.Nat.{ℕ, ◌-◌}
+use mathlib.Core.Path.{refl, ap, ◌∙◌}
+use Rattle.std.proofs.Common.{rules, tests}
+use Rattle.std.proofs.lemmas.Iterator.{YieldsList-from_range}
+use Rattle.std.proofs.lemmas.Iterator.Search.{all_from_yields_List}
+use lib.ListN.{length}
 use Rattle.lent_lists.specs.Lists.{hashes_in}
-use Rattle.owners.proofs.Listed.{quad_is, ended, goes_on_lem, breaks}
+use Rattle.owners.specs.Walk.{above_last}
+use Rattle.owners.proofs.Listed.{ascends_by}
 use Rattle.owners.proofs.list.ascends.Goals as goal
 
-pub returns-then-not-quad_less : goal.returns-then-not-quad_less
-returns-then-not-quad_less c =
-    let hs = hashes_in c.args.hashes.now in
-    let i = c.loop-i.i in
-    let e : i ≡ i - 1 + 1 = omega arith in
-    breaks hs (i - 1) (omega (arith, c.loop-i-test.true, c.hashes-i-end.ensures)) c.loop-i.invariant
-    (c.quad_less.ensures ∙ (λ j. ltb (quad_is c.from-a.ensures c.hash_in.ensures j) (quad_is c.from-b.ensures (rw e at c.hash_in-in-loop-i.ensures) j))) c.if-not-quad_less.true
-
-pub loop-i-preserved : goal.loop-i-preserved
-loop-i-preserved c =
-    let hs = hashes_in c.args.hashes.now in
-    let i = c.loop-i.i in
-    let e : i ≡ i - 1 + 1 = omega arith in
-    let f : i + 1 - 1 ≡ i - 1 + 1 = omega arith in
-    rw f (goes_on_lem hs (i - 1) (omega (arith, c.loop-i-test.true, c.hashes-i-end.ensures)) c.loop-i.invariant
-    (c.quad_less.ensures ∙ (λ j. ltb (quad_is c.from-a.ensures c.hash_in.ensures j) (quad_is c.from-b.ensures (rw e at c.hash_in-in-loop-i.ensures) j))) c.if-not-quad_less.false)
-
 pub returns : goal.returns
-returns c = sym (c.loop-i.invariant ∙ ended (hashes_in c.args.hashes.now) (c.loop-i.i - 1) (omega (arith, c.loop-i-test.false, c.hashes-i-end.ensures)))
+returns c =
+    let hs = hashes_in c.args.hashes.now in
+    let n = length hs in
+    all_from_yields_List (above_last hs) _ _ _ c.all.ensures.ran (YieldsList-from_range 1 c.hashes.result (n - 1) refl (ap (λ (m : ℕ). m - 1) c.hashes.ensures)) (λ x b q k. search (rules, tests))
+    ∙ ascends_by hs (n - 1) refl

@@ -5,6 +5,3 @@ use Rattle.owners.proofs.list.needs.Goals as goal
 
 pub overflow_mul-result : goal.overflow_mul-result
 overflow_mul-result c = omega (arith, c.hashes.ensures, length-hashes c.args.hashes.now)
-
-pub returns : goal.returns
-returns c = omega (arith, c.hashes.ensures)
