@@ -9,8 +9,8 @@ pub fn give_back(s: &mut [u8], picks: &[usize])
     requires { Marked s.old picks.now (length picks.now) }
     ensures { GivenBack s.old s.new picks.now (length picks.now) }
 {
-    for &at in picks.iter().rev() {
-        let r = store::rows::row_at(s, at);
+    for j in (0..picks.len()).rev() {
+        let r = store::rows::row_at(s, picks[j]);
         requests::disown(s, announcing::evict::key_of(r), r.conn);
     }
 }
@@ -20,8 +20,8 @@ pub fn put_entries(s: &[u8], numbers: &[usize], out: &mut [u8])
     requires { Kept s.now × RowsOfStore s.now numbers.now (length numbers.now) × (entry_bytes * length numbers.now ≤ length out.old) }
     ensures { EntriesPut s.now numbers.now (length numbers.now) out.old out.new }
 {
-    for (j, &at) in numbers.iter().enumerate() {
-        let r = store::rows::row_at(s, at);
+    for j in 0..numbers.len() {
+        let r = store::rows::row_at(s, numbers[j]);
         claiming::entries::put_entry(out, j, claiming::entry_of(r));
     }
 }

@@ -1,21 +1,12 @@
 -- `selecting::giving::give_back` meets its contract.
 use Prim.Native.Nat.{◌+◌, ◌-◌, ◌<◌}
-use mathlib.Core.Path.{◌≡◌, refl, subst, ◌∙◌}
+use mathlib.Core.Path.{◌≡◌, subst, ◌∙◌}
 use native.Mathlib.Omega.{arith}
 use lib.ListN.{length}
 use Rattle.requests.proofs.Keeping.{kept_shown}
 use Rattle.selecting.proofs.Picking.{conn-at}
-use Rattle.selecting.proofs.GivingBack.{Back, back_start, back_done, back_kept, back_inside, back_more}
+use Rattle.selecting.proofs.GivingBack.{Back, back_done, back_kept, back_inside, back_more}
 use Rattle.selecting.proofs.giving.give_back.Goals as goal
-
-pub loop-j-init : goal.loop-j-init
-loop-j-init c = (omega arith, refl, λ now st l s m. back_start m)
-
-pub offset_bounds-picks-j : goal.offset_bounds-picks-j
-offset_bounds-picks-j c = omega (arith, c.loop-j.invariant.0, c.loop-j-test.true, c.well_formed.1.0)
-
-pub bounds-picks-j : goal.bounds-picks-j
-bounds-picks-j c = omega (arith, c.loop-j.invariant.0, c.loop-j-test.true)
 
 pub row_at-r-requires : goal.row_at-r-requires
 row_at-r-requires c =
@@ -25,16 +16,6 @@ row_at-r-requires c =
     let next : c.loop-j.j ≡ j + 1 = omega (arith, c.loop-j-test.true) in
     let less : j < length c.args.picks.now = omega (arith, c.loop-j.invariant.0, c.loop-j-test.true) in
     (kept_shown (back_kept w.sound w.marks j next less g), back_inside w.sound w.marks j next less g)
-
-pub disown-requires : goal.disown-requires
-disown-requires c =
-    let w = c.requires in
-    let g = c.loop-j.invariant.2 w.clock w.state w.chosen w.sound w.marks in
-    let j = c.loop-j.j - 1 in
-    let next : c.loop-j.j ≡ j + 1 = omega (arith, c.loop-j-test.true) in
-    let less : j < length c.args.picks.now = omega
-    (arith, c.loop-j.invariant.0, c.loop-j-test.true) in
-    back_kept w.sound w.marks j next less g
 
 pub loop-j-preserved : goal.loop-j-preserved
 loop-j-preserved c = (
@@ -48,9 +29,6 @@ loop-j-preserved c = (
       c.row_at-r.ensures
       c.key_of.ensures (conn-at c.row_at-r.result) c.disown.ensures,
 )
-
-pub shape_of-s : goal.shape_of-s
-shape_of-s c = c.loop-j.invariant.1
 
 pub returns : goal.returns
 returns c = λ now st l s m.

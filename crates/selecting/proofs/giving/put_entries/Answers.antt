@@ -6,7 +6,6 @@ use lib.ListN.{length, take}
 use lib.Seq.{take_all}
 use Rattle.machine.specs.State.{Entry}
 use Rattle.machine.specs.Step.{entries_answer, written}
-use Rattle.requests.proofs.Keeping.{kept_shown}
 use Rattle.claiming.specs.Claiming.{entry_of}
 use Rattle.claiming.proofs.Stored.{written_none}
 use Rattle.selecting.proofs.Putting.{puts_more}
@@ -14,27 +13,6 @@ use Rattle.selecting.proofs.giving.put_entries.Goals as goal
 
 pub loop-j-init : goal.loop-j-init
 loop-j-init c = (omega arith, refl, λ f l w q g. written_none c.args.out.now)
-
-pub offset_bounds-numbers-j : goal.offset_bounds-numbers-j
-offset_bounds-numbers-j c = omega (arith, c.loop-j-test.true, c.well_formed.1.0)
-
-pub bounds-numbers-j : goal.bounds-numbers-j
-bounds-numbers-j c = omega (arith, c.loop-j-test.true)
-
-pub row_at-r-requires : goal.row_at-r-requires
-row_at-r-requires c = (
-  kept_shown c.requires.0,
-  c.requires.1 c.loop-j.j
-      c.loop-j-test.true,
-)
-
-pub put_entry-requires : goal.put_entry-requires
-put_entry-requires c = omega (
-  arith,
-  c.loop-j-test.true,
-  c.loop-j.invariant.1,
-  c.requires.2,
-)
 
 pub loop-j-preserved : goal.loop-j-preserved
 loop-j-preserved c = (
@@ -50,9 +28,6 @@ loop-j-preserved c = (
       (c.loop-j.invariant.2 f l w q g) c.put_entry.ensures
       c.requires.2,
 )
-
-pub shape_of-out : goal.shape_of-out
-shape_of-out c = c.loop-j.invariant.1
 
 pub returns : goal.returns
 returns c = λ f l w q g.

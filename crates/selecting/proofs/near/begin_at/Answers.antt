@@ -7,14 +7,8 @@ use Rattle.words.specs.Words.{words, recs}
 use Rattle.words.proofs.Records.{length-recs}
 use Rattle.regions.specs.Rows.{row_size, row_key, key_number, start_number}
 use Rattle.regions.proofs.Rows.{row-key_at}
-use Rattle.selecting.proofs.Nearing.{behind_none, behind-guess}
+use Rattle.selecting.proofs.Nearing.{behind-guess}
 use Rattle.selecting.proofs.near.begin_at.Goals as goal
-
-pub returns-then-guess-eq0 : goal.returns-then-guess-eq0
-returns-then-guess-eq0 c = behind_none _ _ _
-
-pub returns-then-n-guess : goal.returns-then-n-guess
-returns-then-n-guess c = behind_none _ _ _
 
 pub returns-then-falls_short : goal.returns-then-falls_short
 returns-then-falls_short c =
@@ -23,6 +17,3 @@ returns-then-falls_short c =
     let h = rw m.ensures at (ltb-true (key_number m.result) (start_number a.start) (sym c.falls_short.ensures ∙ c.if-falls_short.true)) in
     behind-guess (recs row_size row_key a.n (words a.s.now)) a.n (start_number a.start) a.guess (length-recs row_size row_key a.n (words a.s.now)) (omega arith)
     (omega arith) (rw (row-key_at (words a.s.now) a.n (a.guess - 1) (omega arith)) h)
-
-pub returns-else-falls_short : goal.returns-else-falls_short
-returns-else-falls_short c = behind_none _ _ _

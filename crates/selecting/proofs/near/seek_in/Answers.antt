@@ -6,7 +6,7 @@ use borrow.Author.Tests.{ltb-true, ltb-false}
 use Rattle.words.specs.Words.{words}
 use Rattle.words.proofs.Records.{length-recs}
 use Rattle.regions.specs.Rows.{row_size, row_key, key_number, start_number}
-use Rattle.regions.proofs.Order.{search_up, search_down, search_end}
+use Rattle.regions.proofs.Order.{search_up, search_down}
 use Rattle.regions.proofs.Rows.{row-key_at}
 use Rattle.selecting.proofs.Nearing.{begins}
 use Rattle.selecting.proofs.near.seek_in.Goals as goal
@@ -29,6 +29,3 @@ loop-lo-preserved c =
     let met = c.key_at in
     let h = rw met.ensures at (ltb-false (key_number met.result) (start_number a.start) (sym c.falls_short.ensures ∙ c.if-falls_short.false)) in
     search_down c.loop-lo.invariant m (omega arith) (omega arith) (rw (row-key_at (words a.s.now) a.n m (omega arith)) h)
-
-pub returns : goal.returns
-returns c = search_end c.loop-lo.invariant c.loop-lo-test.false

@@ -1,13 +1,7 @@
 -- `selecting::near::window_near` meets its contract.
-use Rattle.requests.proofs.Keeping.{kept_shown, sought_order}
+use Rattle.requests.proofs.Keeping.{sought_order}
 use Rattle.selecting.proofs.Nearing.{window_by}
 use Rattle.selecting.proofs.near.window_near.Goals as goal
-
-pub seek_near-from-requires : goal.seek_near-from-requires
-seek_near-from-requires c = kept_shown c.requires
-
-pub seek_near-to-requires : goal.seek_near-to-requires
-seek_near-to-requires c = kept_shown c.requires
 
 pub invariant_of-result : goal.invariant_of-result
 invariant_of-result c = record { order = sought_order c.requires c.seek_near-from.ensures c.seek_near-to.ensures }

@@ -1,55 +1,16 @@
 -- `selecting::phase::keys_over` meets its contract.
 use Prim.Native.Nat.{◌+◌, ◌-◌, ◌≤◌}
-use mathlib.Core.Path.{refl, sym, ap, ◌∙◌}
+use mathlib.Core.Path.{sym, ap, ◌∙◌}
 use mathlib.Core.List.{[], ◌∷◌}
 use native.Mathlib.Omega.{arith}
 use Rattle.ident.specs.Number.{Key}
 use Rattle.store.specs.Flat.{rows_of}
-use Rattle.requests.proofs.Keeping.{kept_shown}
 use Rattle.sweeping.specs.Batches.{keys_over}
 use Rattle.sweeping.proofs.Rounds.{over_none}
-use Rattle.selecting.proofs.Walked.{scans_start, scans_as, scans_full, scans_more}
+use Rattle.selecting.proofs.Walked.{scans_as, scans_more}
 use Rattle.selecting.proofs.Rowwise.{row_ends, row_goes_on}
 use Rattle.selecting.proofs.phase.keys_over.Goals.{then-ends_key, else-ends_key}
 use Rattle.selecting.proofs.phase.keys_over.Goals as goal
-
-pub loop-i-init : goal.loop-i-init
-loop-i-init c =
-    let from = c.args.from in
-    let z : 0 ≤ from - from = omega arith in (
-      (omega arith, c.requires.3.0),
-      refl,
-      refl,
-      scans_as (scans_start (λ st. keys_over from c.args.to (rows_of st.table)) c.args.v c.requires.0 c.requires.2) _ _ z (λ st l s m. refl),
-    )
-
-pub shape_of-s-then-w : goal.shape_of-s-then-w
-shape_of-s-then-w c = c.loop-i.invariant.1
-
-pub shape_of-picks-then-w : goal.shape_of-picks-then-w
-shape_of-picks-then-w c = c.loop-i.invariant.2
-
-pub returns-then-w : goal.returns-then-w
-returns-then-w c =
-    let at = c.loop-i.invariant.0 in
-    scans_full c.loop-i.invariant.3 (λ st. []) _ (omega (arith, at)) c.if-w.true
-
-pub row_at-r-requires : goal.row_at-r-requires
-row_at-r-requires c =
-    let x = c.loop-i.invariant.3 in (kept_shown x.kept, omega (arith, c.loop-i-test.true, x.rows_same, c.requires.3.1))
-
-pub ends_key-requires : goal.ends_key-requires
-ends_key-requires c =
-    let x = c.loop-i.invariant.3 in (kept_shown x.kept, omega (arith, c.loop-i-test.true), omega (arith, x.rows_same, c.requires.3.1))
-
-pub consider_next-w-requires : goal.consider_next-w-requires
-consider_next-w-requires c =
-    let x = c.loop-i.invariant.3 in
-    let at = c.loop-i.invariant.0 in (
-      x.kept,
-      omega (arith, x.roomy.more c.if-w.false, c.loop-i.invariant.2, c.requires.1),
-      omega (arith, x.near, at, c.loop-i-test.true, c.requires.4),
-    )
 
 pub loop-i-preserved : goal.loop-i-preserved
 loop-i-preserved c =
@@ -76,12 +37,6 @@ loop-i-preserved c =
             (λ st l s m. row_goes_on s m i to less (omega (arith, c.requires.3.1, x.rows_same)) c.row_at-r.ensures c.ends_key.ensures k.if-ends_key.false),
       )
     ]
-
-pub shape_of-s : goal.shape_of-s
-shape_of-s c = c.loop-i.invariant.1
-
-pub shape_of-picks : goal.shape_of-picks
-shape_of-picks c = c.loop-i.invariant.2
 
 pub returns : goal.returns
 returns c =
