@@ -1,5 +1,5 @@
 // plan on the bytes of a sound store (document 01, "plan").
-#![tactic(auto)]
+#![tactic(auto, using(requests::proofs::Keeping::kept_shown, sweeping::proofs::Lent::kept_head))]
 
 pub mod expiring;
 pub mod noted;

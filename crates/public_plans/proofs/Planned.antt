@@ -6,7 +6,10 @@ use mathlib.Core.List.{List, [], ◌∷◌, ◌++◌}
 use mathlib.Core.Option.{Option, none, some}
 use native.Mathlib.Omega.{arith}
 use lib.Dec.{eqb, leb, lit<}
-use lib.ListN.{length, take, drop}
+use lib.ListN.{length, get_or, take, drop}
+use denote.Ref.{Bor}
+use Rattle.std.specs.Prelude as rust
+use Rattle.std.specs.Prelude.{IfSome}
 use Rattle.ident.specs.declared.ItemKind.{ItemKind}
 use Rattle.ident.specs.declared.ItemKind.TheVariants.{Transaction, WitnessTransaction, WTx, Other}
 use Rattle.ident.specs.Number.{Key, txid, wtxid, kind_of, key_as, type_of, is_plain, top}
@@ -27,7 +30,8 @@ use Rattle.machine.proofs.Plan.{keys-typed, round-typed, bounded-expired, expire
 use Rattle.store.specs.Image.{Writes, SoundStore, Bytes}
 use Rattle.planning.specs.declared.plan.Planned.{Planned}
 use Rattle.claiming.specs.Claiming.{entries_from}
-use Rattle.planning.specs.Replying.{Plans}
+use Rattle.planning.specs.Replying.{asked_in, Plans}
+use Rattle.selecting.proofs.Given.{given_typed}
 use Rattle.outcome.specs.Outcome.{Does}
 use Rattle.outcome.specs.Tests.{in_turn}
 use Rattle.outcome.specs.Lent.{Lent}
@@ -129,6 +133,11 @@ plan_whole now asked s w g a =
     sorted_whole _ (phase_whole b now (asked_keys asked s.ready_cursor (expired now s).table) _ (asked-typed now asked s w g a) first)
 
 -- ---- the call
+
+-- keys that bytes hold are keys
+pub asked_typed : (o : rust.Option (Bor (List ℕ))) → IfSome o (λ g. (i : ℕ) → get_or g.now i 0 < 256) → KeysTyped (asked_in (λ g. g.now) o)
+asked_typed rust.None h = tt
+asked_typed (rust.Some g) h = given_typed g.now h
 
 module _ (clock : ℕ) (asked : Option (List Key)) where
   pub plans : (u : Buffer) → Names (Plan clock asked u) [] (clock ∷ []) 0 u (λ s. entry_bytes * min (max_request_checks + 1) s.limit)

@@ -1,13 +1,14 @@
 -- An entry as it is sent: the search among the witness connections, and the item.
-use Prim.Native.Nat.{ℕ, ◌+◌, ◌<◌, ◌≤◌}
+use Prim.Native.Nat.{ℕ, zero, suc, ◌+◌, ◌<◌, ◌≤◌}
 use mathlib.Core.Path.{◌≡◌, refl, sym, ap, ◌∙◌}
 use mathlib.Core.Bool.{Bool, true, false, ◌&&◌, ◌||◌}
 use mathlib.Core.List.{List, []}
 use native.Mathlib.Numerals.{add-one}
-use borrow.Author.Tests.{eq-eqb, ne_eqb}
+use native.Mathlib.Omega.{arith}
 use lib.Dec.{eqb}
 use lib.ListN.{length, get_or, drop, drop_of_length-le}
 use lib.Seq.{drop-cons}
+use Rattle.std.specs.List.{list_any, range_with_len}
 use Rattle.ident.specs.declared.ItemKind.{ItemKind}
 use Rattle.ident.specs.declared.ItemKind.TheVariants.{Transaction, WitnessTransaction, WTx, Other}
 use Rattle.std.specs.Prelude.{if◌then◌else◌}
@@ -24,19 +25,17 @@ elem_next : (n : ℕ) (ws : List ℕ) (i : ℕ) → i < length ws → elem n (dr
 unfolding elem
 elem_next n ws i h = ap (elem n) (drop-cons ws i 0 h) ∙ ap (λ (j : ℕ). eqb (get_or ws i 0) n || elem n (drop j ws)) (sym (add-one i))
 
-module _ (n : ℕ) (ws : List ℕ) (i : ℕ) (v : elem n ws ≡ elem n (drop i ws)) where
-  module _ {x : ℕ} (h : i < length ws) (e : x ≡ get_or ws i 0) where
-    pub elem_found : x ≡ n → true ≡ elem n ws
-    elem_found f = sym (v ∙ elem_next n ws i h ∙ rw (eq-eqb (get_or ws i 0) n (sym e ∙ f)) refl)
+-- the i-th word is n
+abbrev pub is_at : ℕ → List ℕ → ℕ → Bool
+is_at n ws i = eqb (get_or ws i 0) n
 
-    pub elem_past : (x ≡ n → ⊥) → elem n ws ≡ elem n (drop (i + 1) ws)
-    elem_past f = v ∙ elem_next n ws i h ∙ rw (ne_eqb (get_or ws i 0) n (λ g. f (e ∙ g))) refl
+elem_from : (n : ℕ) (ws : List ℕ) (k i : ℕ) → i + k ≡ length ws → list_any (is_at n ws) (range_with_len i k) ≡ elem n (drop i ws)
+unfolding elem
+elem_from n ws zero i h = let e : length ws ≤ i = omega arith in rw (drop_of_length-le ws e) refl
+elem_from n ws (suc k) i h = ap (λ (x : Bool). eqb (get_or ws i 0) n || x) (elem_from n ws k (i + 1) (omega arith)) ∙ sym (elem_next n ws i (omega arith))
 
-  pub elem_none : length ws ≤ i → false ≡ elem n ws
-  elem_none h = sym (v ∙ ap (elem n) (drop_of_length-le ws h) ∙ none n)
-    where
-      none : (n : ℕ) → elem n [] ≡ false
-      none n = unfold elem in refl
+pub elem_by : (n : ℕ) (ws : List ℕ) (k : ℕ) → k ≡ length ws → list_any (is_at n ws) (range_with_len 0 k) ≡ elem n ws
+elem_by n ws k h = elem_from n ws k 0 (omega arith)
 
 -- what was looked up is known
 pub looked_up : (ws : List ℕ) {n m : ℕ} {b : Bool} → m ≡ n → b ≡ elem n ws → b ≡ elem m ws

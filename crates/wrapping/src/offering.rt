@@ -37,7 +37,8 @@ struct Terms {
 }
 
 // Items that are announced on the same terms, and the priorities that the host drew for them: the shorter list decides how many offers these
-// are. (A slice in a struct does not say by itself that bytes are bytes.)
+// are. (A slice in a struct does not say by itself that bytes are bytes. The first item of a part goes beside the batch: the parts are told by where they begin
+// and end in it.)
 #[derive(Clone, Copy)]
 struct Batch<'a> {
     terms: Terms,
@@ -189,19 +190,11 @@ fn displaces(s: &[u8], b: Batch, first: usize) -> bool
     requires { Kept s.now × (first < length (offers_in b.items.now b.priorities.now)) }
     ensures { result ≡ true → Whole s.now × (b.entry.terms.preferred ≡ true) }
 {
-    let count = b.count();
-    if count - first < FEW {
-        return false;
-    }
-    if !b.terms.preferred {
+    if b.count() - first < FEW || !b.terms.preferred {
         return false;
     }
     let item = lent_lists::item_at(b.items, first);
-    let h = item.hash;
-    if announcing::keyed::crowded(s, h) {
-        return false;
-    }
-    full(s)
+    !announcing::keyed::crowded(s, item.hash) && full(s)
 }
 
 // As many victims are listed at most.
@@ -215,7 +208,8 @@ fn at_most(n: usize) -> usize
 }
 
 // Announces items from the first on, with the store left as it is: each that comes in waits in `new`, which is empty, and the next of the
-// victims listed in `top` is to go.
+// victims listed in `top` is to go. (The loop is `collect`'s: one of both would take as a closure what lets an item in, and ask of it in clauses how what stands so far,
+// which is not the same for the two, goes on at each Fare: longer than the loop.)
 fn swap(s: &[u8], new: &mut [u8], top: &Victims, b: Batch, first: usize) -> Part
     requires { Kept s.now × Whole s.now × VictimsIn s.now (words top.now.bytes) top.now.count
         × (8 * (row_size * space) ≤ length new.old) × Empty (words new.old) × (first ≤ length (offers_in b.items.now b.priorities.now)) }

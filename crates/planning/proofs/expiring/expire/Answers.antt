@@ -13,9 +13,3 @@ expire_silent-requires c = lent_kept c.requires.apart
 
 pub returns-then-c-eq0 : goal.returns-then-c-eq0
 returns-then-c-eq0 c = let late : c.args.clock < word = omega arith in all_silent late c.if-c-eq0.true c.expire_silent.auto.s c.expire_silent.ensures (search rules) refl
-
-pub expire_each-requires : goal.expire_each-requires
-expire_each-requires c = c.requires
-
-pub returns : goal.returns
-returns c = c.expire_each.ensures

@@ -4,21 +4,15 @@ use mathlib.Core.Path.{refl, ◌∙◌}
 use native.Mathlib.Omega.{arith}
 use Rattle.ident.specs.Words.{key_num}
 use Rattle.machine.specs.Limits.{word}
-use Rattle.apart.proofs.OneOwner.{front_within, lent_kept}
+use Rattle.apart.proofs.OneOwner.{lent_kept}
 use Rattle.planning.proofs.AllExpired.{place-small, way-starts, way-parted, way-spent, way_goes, way-ends, lent_next}
 use Rattle.planning.proofs.expiring.expire_each.Goals as goal
 
 pub loop-due-init : goal.loop-due-init
 loop-due-init c = (refl, omega arith, omega arith, way-starts c.args.clock _ (omega arith) _ refl)
 
-pub slice_bounds-next_due-end : goal.slice_bounds-next_due-end
-slice_bounds-next_due-end c = let x = front_within (way-parted c.requires c.loop-due.invariant.3).apart in omega (arith, x)
-
 pub next_due-requires : goal.next_due-requires
 next_due-requires c = lent_kept (way-parted c.requires c.loop-due.invariant.3).apart
-
-pub shape_of-s : goal.shape_of-s
-shape_of-s c = c.loop-due.invariant.0
 
 pub returns : goal.returns
 returns c = way-ends c.loop-due.invariant.2 c.loop-due.invariant.3 ((lent_next c.loop-due.s c.args.m c.next_due.ensures).ends c.in_default.is)
@@ -31,11 +25,6 @@ expire_one-known-requires c = let g = (lent_next c.loop-due.s c.args.m c.next_du
 
 pub invariant_of-owner : goal.invariant_of-owner
 invariant_of-owner c = record { positive = ((lent_next c.loop-due.s c.args.m c.next_due.ensures).goes c.in-Some.due c.in-Some.is).positive }
-
-pub loop-due-smaller : goal.loop-due-smaller
-loop-due-smaller c = let g = (lent_next c.loop-due.s c.args.m c.next_due.ensures).goes c.in-Some.due c.in-Some.is in
-    let p = place-small (key_num c.in-Some.due.key) g.small in
-    omega (arith, g.from, p)
 
 pub loop-due-preserved : goal.loop-due-preserved
 loop-due-preserved c = let g = (lent_next c.loop-due.s c.args.m c.next_due.ensures).goes c.in-Some.due c.in-Some.is in

@@ -2,9 +2,6 @@
 use Rattle.planning.proofs.NextDue.{next_ends, next_goes}
 use Rattle.planning.proofs.expiring.next_due.Goals as goal
 
-pub seek_due-requires : goal.seek_due-requires
-seek_due-requires c = (c.requires, c.after_cursor.ensures.1.few)
-
 pub returns-in_err-r : goal.returns-in_err-r
 returns-in_err-r c = rw c.from_residual.ensures (next_ends c.args.clock c.after_cursor.ensures.1 c.seek_due.ensures c.in_err-r.was)
 

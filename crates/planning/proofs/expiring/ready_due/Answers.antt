@@ -5,25 +5,16 @@ use native.Mathlib.Omega.{arith}
 use Rattle.ident.specs.Words.{key_num}
 use Rattle.machine.specs.Limits.{word}
 use Rattle.planning.proofs.AllExpired.{place-small}
-use Rattle.planning.proofs.Readying.{ready-starts, ready_kept, half_kept, ready_goes, ready-ends, made_ready}
+use Rattle.planning.proofs.Readying.{ready-starts, half_kept, ready_goes, ready-ends, made_ready}
 use Rattle.planning.proofs.expiring.ready_due.Goals as goal
 
 pub loop-due-init : goal.loop-due-init
 loop-due-init c = (refl, omega arith, ready-starts _ c.args.clock _ (omega arith))
 
-pub next_due-requires : goal.next_due-requires
-next_due-requires c = ready_kept c.loop-due.invariant.2 c.requires
-
-pub shape_of-s : goal.shape_of-s
-shape_of-s c = c.loop-due.invariant.0
-
 pub returns : goal.returns
 returns c =
     let late : c.args.clock < word = omega arith in
     made_ready late (ready-ends c.loop-due.invariant.2 (c.next_due.ensures.ends c.in_default.is))
-
-pub ready_all-requires : goal.ready_all-requires
-ready_all-requires c = ready_kept c.loop-due.invariant.2 c.requires
 
 pub ready_all-requires-in-Some : goal.ready_all-requires-in-Some
 ready_all-requires-in-Some c =
@@ -33,13 +24,6 @@ ready_all-requires-in-Some c =
     half_kept c.loop-due.invariant.2
     (key_num c.in-Some.due.key) late g.small c.ready_all.ensures
     c.requires
-
-pub loop-due-smaller : goal.loop-due-smaller
-loop-due-smaller c =
-    let g = c.next_due.ensures.goes
-    c.in-Some.due c.in-Some.is in
-    let p = place-small (key_num c.in-Some.due.key) g.small in
-    omega (arith, g.from, p)
 
 pub loop-due-preserved : goal.loop-due-preserved
 loop-due-preserved c =

@@ -1,52 +1,14 @@
 -- `planning::noted::consider_bits` meets its contract.
 use Prim.Native.Nat.{◌+◌, ◌-◌, ◌/◌, ◌≤◌}
-use mathlib.Core.Path.{refl, ◌∙◌}
+use mathlib.Core.Path.{◌∙◌}
 use mathlib.Core.List.{[]}
 use native.Mathlib.Omega.{arith}
 use Rattle.words.specs.Words.{words}
 use Rattle.apart.specs.Noting.{hashes_at, picked}
-use Rattle.selecting.proofs.Walked.{scans_start, scans_as, scans_full, scans_more}
+use Rattle.selecting.proofs.Walked.{scans_as, scans_more}
 use Rattle.planning.proofs.Notings.{bit-set, bit-clear, bits_done}
 use Rattle.planning.proofs.noted.consider_bits.Goals.{then-left-eq1, else-left-eq1}
 use Rattle.planning.proofs.noted.consider_bits.Goals as goal
-
-pub loop-j-init : goal.loop-j-init
-loop-j-init c = let z : 0 ≤ c.args.from - c.args.from = omega arith in (
-  (omega arith, c.requires.3.0),
-  refl,
-  refl,
-  scans_as (scans_start (λ st. picked (hashes_at (words c.args.slot.now) c.args.from (c.args.to - c.args.from)) c.args.bits) c.args.v c.requires.0 c.requires.2) _ _ z (λ st l s m. refl),
-)
-
-pub shape_of-s-then-w : goal.shape_of-s-then-w
-shape_of-s-then-w c = c.loop-j.invariant.1
-
-pub shape_of-picks-then-w : goal.shape_of-picks-then-w
-shape_of-picks-then-w c = c.loop-j.invariant.2
-
-pub returns-then-w : goal.returns-then-w
-returns-then-w c = scans_full c.loop-j.invariant.3 (λ st. []) _ (omega (arith, c.loop-j.invariant.0)) c.if-w.true
-
-pub parent_of-h-requires : goal.parent_of-h-requires
-parent_of-h-requires c = omega (arith, c.loop-j-test.true, c.requires.3.1)
-
-pub consider-w-requires : goal.consider-w-requires
-consider-w-requires c = let x = c.loop-j.invariant.3 in (
-  x.kept,
-  omega (
-    arith,
-    x.roomy.more c.if-w.false,
-    c.loop-j.invariant.2,
-    c.requires.1,
-  ),
-  omega (
-    arith,
-    x.near,
-    c.loop-j.invariant.0,
-    c.loop-j-test.true,
-    c.requires.4,
-  ),
-)
 
 pub loop-j-preserved : goal.loop-j-preserved
 loop-j-preserved c =
@@ -71,12 +33,6 @@ loop-j-preserved c =
             (λ st l s m. bit-clear w j to left c.loop-j-test.true k.if-left-eq1.false),
       )
     ]
-
-pub shape_of-s : goal.shape_of-s
-shape_of-s c = c.loop-j.invariant.1
-
-pub shape_of-picks : goal.shape_of-picks
-shape_of-picks c = c.loop-j.invariant.2
 
 pub returns : goal.returns
 returns c = scans_as c.loop-j.invariant.3 (λ st. []) _ (omega (arith, c.loop-j.invariant.0))

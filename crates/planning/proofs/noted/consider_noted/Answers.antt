@@ -1,21 +1,10 @@
 -- `planning::noted::consider_noted` meets its contract.
-use mathlib.Core.Path.{refl, sym, subst}
-use Rattle.store.specs.Shown.{Kept}
-use Rattle.apart.proofs.Overdue.{front_lent}
+use mathlib.Core.Path.{refl}
 use Rattle.planning.proofs.Notings.{both_zero, place-clear, place-scanned}
 use Rattle.planning.proofs.noted.consider_noted.Goals as goal
 
 pub returns-then-low-high : goal.returns-then-low-high
 returns-then-low-high c = let z = both_zero c.note_at-note.result.low c.note_at-note.result.high c.if-low-high.true in place-clear c.note_at-note.ensures z.0 z.1 c.requires.1 c.requires.3
-
-pub consider_place-requires : goal.consider_place-requires
-consider_place-requires c = (
-  subst Kept (sym (front_lent c.args.s.now c.args.m)) c.requires.1,
-  c.requires.2,
-  c.requires.3,
-  c.parents_in-c.ensures.most,
-  c.requires.4,
-)
 
 pub returns : goal.returns
 returns c = place-scanned c.note_at-note.ensures _ _ _ c.load.ensures c.parents_in-c.ensures c.requires.0.front c.consider_place.auto.s refl c.consider_place.ensures

@@ -9,25 +9,6 @@ use Rattle.apart.proofs.Notes.{both_halves}
 use Rattle.selecting.proofs.Walked.{scans_as, scans_for, scans_both}
 use Rattle.planning.proofs.noted.consider_place.Goals as goal
 
-pub consider_bits-requires : goal.consider_bits-requires
-consider_bits-requires c = let x = c.consider_bits-x.ensures in let h = c.first_half-e.ensures in (
-  x.kept,
-  omega (
-    arith,
-    c.consider_bits-x.auto.picks,
-    c.requires.1,
-  ),
-  x.roomy,
-  (h.within, c.requires.3),
-  omega (
-    arith,
-    x.near,
-    h.within,
-    c.requires.3,
-    c.requires.4,
-  ),
-)
-
 pub returns : goal.returns
 returns c = let h = c.first_half-e.ensures in scans_as (scans_for (λ st.
     picked_in (hashes_at (words c.args.slot.now) 0 c.args.c) c.args.note.low c.args.note.high) (λ st l u w. both_halves (words c.args.slot.now) h c.args.note.low c.args.note.high)

@@ -2,12 +2,9 @@
 use native.Mathlib.Omega.{arith}
 use mathlib.Core.Path.{◌∙◌}
 use Rattle.apart.proofs.OneOwner.{all_room, front_kept}
-use Rattle.planning.proofs.Planned.{rested_few, expired-parted, room_same, begun}
+use Rattle.planning.proofs.Planned.{rested_few, expired-parted, begun}
 use borrow.Author.Rules.{rules}
 use Rattle.planning.proofs.plan.begin.Goals as goal
-
-pub expire-e-requires : goal.expire-e-requires
-expire-e-requires c = c.requires.0
 
 pub phase_noted-w-requires : goal.phase_noted-w-requires
 phase_noted-w-requires c = let x = expired-parted c.expire-e.ensures c.requires.0 in let n = rested_few c.requires.0 in (
@@ -17,14 +14,6 @@ phase_noted-w-requires c = let x = expired-parted c.expire-e.ensures c.requires.
   omega (arith, c.fresh-v.ensures.chosen),
   omega (arith, n, c.expire-e.ensures.most, c.fresh-v.ensures.considered),
 )
-
-pub forget-requires : goal.forget-requires
-forget-requires c = let x = expired-parted c.expire-e.ensures c.requires.0 in room_same
-    (all_room x.apart (omega (
-      arith,
-      c.expire-e.ensures.most,
-      x.count,
-    ))) c.phase_noted-w.auto.s
 
 pub returns : goal.returns
 returns c = begun (rested_few c.requires.0) c.expire-e.ensures c.fresh-v.ensures

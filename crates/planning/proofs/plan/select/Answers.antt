@@ -3,23 +3,11 @@ use Prim.Native.Nat.{◌<◌}
 use mathlib.Core.Path.{refl}
 use native.Mathlib.Omega.{arith}
 use Rattle.machine.specs.Limits.{word}
-use Rattle.requests.proofs.Keeping.{kept_shown}
 use Rattle.apart.proofs.OneOwner.{front_within}
 use Rattle.planning.specs.Replying.{asked_in}
 use Rattle.planning.proofs.Planned.{set-parted, started, limit_is, parted-after, plan_is}
 use borrow.Author.Rules.{rules}
 use Rattle.planning.proofs.plan.select.Goals as goal
-
-pub held_places-c-requires : goal.held_places-c-requires
-held_places-c-requires c = let z = (kept_shown c.requires.0).sizes.long in omega (arith, z)
-
-pub begin-v-requires : goal.begin-v-requires
-begin-v-requires c = (set-parted c.requires.0 c.set_apart.ensures c.held_places-c.ensures.word, omega (arith, c.numbers-picks.ensures))
-
-pub slice_bounds-ask-end : goal.slice_bounds-ask-end
-slice_bounds-ask-end c =
-    let y = front_within (set-parted c.requires.0 c.set_apart.ensures c.held_places-c.ensures.word).apart in
-    omega (arith, y, c.begin-v.auto.s)
 
 pub ask-r-requires : goal.ask-r-requires
 ask-r-requires c =

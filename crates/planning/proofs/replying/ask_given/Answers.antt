@@ -16,9 +16,6 @@ phase_given-w-requires c = (
   omega (arith, c.requires.3),
 )
 
-pub slice_bounds-finish-end : goal.slice_bounds-finish-end
-slice_bounds-finish-end c = let x = c.phase_given-w.ensures in omega (arith, x.most, c.phase_given-w.auto.picks, c.requires.1)
-
 pub finish-requires : goal.finish-requires
 finish-requires c =
     let x = c.phase_given-w.ensures in

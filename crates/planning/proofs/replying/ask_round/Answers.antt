@@ -21,9 +21,6 @@ phase_round-w-requires c = let k = kept_shown (begun_kept c.requires.0) in (
   ),
 )
 
-pub slice_bounds-finish-end : goal.slice_bounds-finish-end
-slice_bounds-finish-end c = let x = c.phase_round-w.ensures in omega (arith, x.most, c.phase_round-w.auto.picks, c.requires.1)
-
 pub finish-requires : goal.finish-requires
 finish-requires c =
     let x = c.phase_round-w.ensures in
@@ -31,14 +28,6 @@ finish-requires c =
     let h : c.phase_round-w.result.chosen ≤ length p = omega (arith, x.most, c.phase_round-w.auto.picks, c.requires.1) in
     let n = front-long p h in
     (front_marked p h (marked-after none x c.requires.0), omega (arith, n, x.most), omega (arith, n, few_chosen none x round-keys c.requires.0, c.requires.2))
-
-pub move_ready-requires : goal.move_ready-requires
-move_ready-requires c = let z = (kept_shown (begun_kept c.requires.0)).sizes.long in omega (
-  arith,
-  z,
-  c.phase_round-w.auto.s,
-  c.finish.auto.s,
-)
 
 pub returns : goal.returns
 returns c = planned none c.phase_round-w.ensures c.args.out.now (front_closed c.phase_round-w.new.picks

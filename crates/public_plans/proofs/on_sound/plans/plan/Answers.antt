@@ -1,18 +1,18 @@
 -- `public_plans::on_sound::plans::plan` meets its contract: an instance of proofs/Planned.
-use mathlib.Core.Option.{none}
 use native.Mathlib.Omega.{arith}
+use Rattle.planning.specs.Replying.{asked_in}
 use Rattle.outcome.proofs.Turns.{passed, sized}
 use Rattle.outcome.proofs.Exits.{hands-on}
 use Rattle.outcome.proofs.Carried.{refused, front_limit}
-use Rattle.public_plans.proofs.Planned.{plans, plans_done}
+use Rattle.public_plans.proofs.Planned.{plans, asked_typed, plans_done}
 use Rattle.public_plans.proofs.on_sound.plans.plan.Goals as goal
 
 pub returns-in_err-clock : goal.returns-in_err-clock
 returns-in_err-clock c =
     rw (hands-on _ c.from_residual.ensures.1) (refused (plans _ _ _) c.requires _ (sized _ _ _ _ c.in_err-clock.ensures.test (c.plan_needs-needs.ensures c.requires)))
 
-pub plan-r-requires : goal.plan-r-requires
-plan-r-requires c =
+pub plan-planned-requires : goal.plan-planned-requires
+plan-planned-requires c =
     let w = c.requires in
     let p = passed c.in_ok-clock.ensures.test in
     let e = c.need_of-n.ensures in
@@ -22,8 +22,7 @@ pub returns : goal.returns
 returns c =
     let w = c.requires in
     let a = c.args in
-    let q = sized _ _ _ _ c.in_ok-clock.ensures.test
-    (c.plan_needs-needs.ensures w) in
-    plans_done _ none w (omega arith) tt q
+    let q = sized _ _ _ _ c.in_ok-clock.ensures.test (c.plan_needs-needs.ensures w) in
+    rw c.from.ensures (plans_done _ (asked_in (λ g. g.now) a.asked) w (omega arith) (asked_typed a.asked ?) q
     c.need_of-n.ensures (λ i. omega (arith, c.type_inv.s i))
-    (rw c.in_ok-clock.ensures.given at c.plan-r.ensures)
+    (rw c.in_ok-clock.ensures.given at c.plan-planned.ensures))
