@@ -1,6 +1,6 @@
 // announce_transactions, transaction_response_completed and transaction_not_found on the bytes of a sound store (document 01,
 // "Wrappers' tracker part").
-#![tactic(auto)]
+#![tactic(auto, using(requests::proofs::Keeping::kept_shown))]
 
 ghost use Rattle.ident.specs.Words.{hash_num};
 ghost use Rattle.machine.specs.Wrapper as machine;

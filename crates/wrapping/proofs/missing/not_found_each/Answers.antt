@@ -8,14 +8,11 @@ use Rattle.machine.specs.Call.{key_bytes}
 use Rattle.machine.proofs.Fail.{Peer}
 use Rattle.lent_lists.specs.Items.{items_in}
 use Rattle.lent_lists.proofs.Inventory.{items-fit}
-use Rattle.wrapping.proofs.Unfound.{turned_start, turned_kept, turned_fits, turned_roomy, turned_more, turned_done}
+use Rattle.wrapping.proofs.Unfound.{turned_start, turned_kept, turned_fits, turned_roomy, turned_more}
 use Rattle.wrapping.proofs.missing.not_found_each.Goals as goal
 
 pub loop-i-init : goal.loop-i-init
 loop-i-init c = turned_start _ _ _ _ _
-
-pub item_at-item-requires : goal.item_at-item-requires
-item_at-item-requires c = omega (arith, c.loop-i-test.true, c.items-count.ensures)
 
 pub overflow_mul-a : goal.overflow_mul-a
 overflow_mul-a c =
@@ -46,9 +43,6 @@ slice_bounds-not_found_one-start c =
     let hashed = items-fit a.items.now (λ j. omega (arith, c.type_inv.items j)) in
     let v = c.loop-i.invariant in
     omega (arith, turned_fits v peer late hashed c.requires.0 c.requires.1, v.buffer-long)
-
-pub slice_bounds-not_found_one-end : goal.slice_bounds-not_found_one-end
-slice_bounds-not_found_one-end c = omega (arith, c.loop-i.invariant.buffer-long)
 
 pub not_found_one-c-requires : goal.not_found_one-c-requires
 not_found_one-c-requires c =
@@ -100,12 +94,3 @@ loop-i-preserved c =
     turned_more v peer late hashed c.requires.0 c.requires.1 inside from (sym v.buffer-long) _ c.item_at-item.ensures
     c.not_found_one-c.auto.s c.not_found_one-c.auto.out
     c.not_found_one-c.ensures
-
-pub shape_of-s : goal.shape_of-s
-shape_of-s c = c.loop-i.invariant.store_long
-
-pub shape_of-out : goal.shape_of-out
-shape_of-out c = c.loop-i.invariant.buffer-long
-
-pub returns : goal.returns
-returns c = turned_done c.loop-i.invariant (omega (arith, c.loop-i.invariant.inside, c.loop-i-test.false, c.items-count.ensures))

@@ -1,7 +1,7 @@
 -- `wrapping::offering::announce_for_victims` meets its contract.
 use native.Mathlib.Omega.{arith}
 use Rattle.lent_lists.specs.Items.{offers_in}
-use Rattle.wrapping.proofs.Swapped.{went_all, went-nobody}
+use Rattle.wrapping.proofs.Swapped.{went-nobody}
 use Rattle.wrapping.proofs.offering.announce_for_victims.Goals as goal
 
 pub returns-then-m-eq0 : goal.returns-then-m-eq0
@@ -14,19 +14,3 @@ returns-then-m-eq0 c = went-nobody c.args.b.terms (offers_in
     c.requires.2
     c.requires.3
     c.count-count.ensures
-
-pub settle-p-requires : goal.settle-p-requires
-settle-p-requires c = (
-  c.requires.0,
-  c.requires.1,
-  c.list.ensures.1,
-  omega (arith, c.requires.3),
-)
-
-pub returns-then-p-m : goal.returns-then-p-m
-returns-then-p-m c = went_all c.settle-p.ensures c.list.ensures.2 c.if-p-m.true
-    c.requires.2
-    c.count-count.ensures
-
-pub returns : goal.returns
-returns c = c.settle-p.ensures.went

@@ -6,15 +6,6 @@ use Rattle.lent_lists.proofs.Inventory.{offers-fit}
 use Rattle.wrapping.proofs.Swapped.{went_kept, went_then}
 use Rattle.wrapping.proofs.offering.announce_part.Goals as goal
 
-pub announce_for_victims-next-requires : goal.announce_for_victims-next-requires
-announce_for_victims-next-requires c =
-    let z = c.displaces.ensures c.if-not-displaces.false in (
-      c.requires.0,
-      z.0,
-      z.1,
-      c.requires.1,
-    )
-
 pub announce_some-requires-2 : goal.announce_some-requires-2
 announce_some-requires-2 c =
     let os = offers_in c.args.b.items.now

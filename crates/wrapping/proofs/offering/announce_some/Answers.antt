@@ -4,14 +4,8 @@ use native.Mathlib.Omega.{arith}
 use Rattle.machine.proofs.Fail.{Peer}
 use Rattle.lent_lists.specs.Items.{offers_in}
 use Rattle.lent_lists.proofs.Inventory.{offers-fit}
-use Rattle.wrapping.proofs.Gathered.{collects_gathers, collects_in, part_kept, part_join}
+use Rattle.wrapping.proofs.Gathered.{collects_in, part_kept, part_join}
 use Rattle.wrapping.proofs.offering.announce_some.Goals as goal
-
-pub come_in-requires : goal.come_in-requires
-come_in-requires c = collects_gathers c.collect-p.ensures c.requires.0
-
-pub invariant_of-rows : goal.invariant_of-rows
-invariant_of-rows c = record { inside = omega (arith, c.collect-p.ensures.few, c.collect-p.auto.new, c.clear.auto.new) }
 
 pub announce_one-requires-then-next-count : goal.announce_one-requires-then-next-count
 announce_one-requires-then-next-count c =
@@ -47,17 +41,4 @@ returns-then-next-count c =
       table = part_join c.args.b.terms os c.args.first c.collect-p.result.next came peer
           typed (c.collect-p.result.next + 1)
           c.collect-p.ensures.from (omega arith) c.announce_one-then-next-count.ensures;
-    }
-
-pub returns : goal.returns
-returns c =
-    record {
-      more = omega (
-        arith,
-        c.if-next-count.false,
-        c.count-count.ensures,
-        c.requires.1,
-      );
-      inside = c.collect-p.ensures.inside;
-      table = collects_in c.collect-p.ensures c.come_in.ensures;
     }

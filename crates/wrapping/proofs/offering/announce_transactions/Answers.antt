@@ -1,5 +1,5 @@
 -- `wrapping::offering::announce_transactions` meets its contract.
-use mathlib.Core.Path.{refl, ◌∙◌}
+use mathlib.Core.Path.{◌∙◌}
 use native.Mathlib.Omega.{arith}
 use Rattle.machine.specs.Typed.{Each, OfferTyped}
 use Rattle.machine.proofs.Fail.{Peer}
@@ -9,22 +9,10 @@ use Rattle.wrapping.specs.declared.offering.Terms.{Terms}
 use Rattle.wrapping.proofs.Batching.{batched_start, batched_kept, batched_more, batched_done}
 use Rattle.wrapping.proofs.offering.announce_transactions.Goals as goal
 
-pub shape_of-s-then-count-eq0 : goal.shape_of-s-then-count-eq0
-shape_of-s-then-count-eq0 c = refl
-
 pub returns-then-count-eq0 : goal.returns-then-count-eq0
 returns-then-count-eq0 c =
     let a : Terms = record { connection = c.args.n; clock = c.args.clock; preferred = c.args.preferred; source = c.args.source; late = c.overloaded-late.result } in
     batched_done (batched_start a _ _) (omega (arith, c.if-count-eq0.true, c.count-count.ensures))
-
-pub announce_part-i-requires : goal.announce_part-i-requires
-announce_part-i-requires c = (
-  c.requires,
-  omega (arith, c.if-count-eq0.false, c.count-count.ensures),
-)
-
-pub loop-i-init : goal.loop-i-init
-loop-i-init c = (refl, c.announce_part-i.ensures.inside, λ u f b. b)
 
 pub announce_part-i-requires-in-loop-i : goal.announce_part-i-requires-in-loop-i
 announce_part-i-requires-in-loop-i c =
@@ -38,14 +26,6 @@ announce_part-i-requires-in-loop-i c =
       omega (arith, c.loop-i-test.true, c.count-count.ensures),
     )
 
-pub loop-i-smaller : goal.loop-i-smaller
-loop-i-smaller c = omega (
-  arith,
-  c.announce_part-i-in-loop-i.ensures.more,
-  c.loop-i-test.true,
-  c.count-count.ensures,
-)
-
 pub loop-i-preserved : goal.loop-i-preserved
 loop-i-preserved c =
     let os = offers_in c.args.items.now c.args.priorities.now in
@@ -56,9 +36,6 @@ loop-i-preserved c =
       c.announce_part-i-in-loop-i.ensures.inside,
       λ u f b. batched_more (c.loop-i.invariant.2 u f b) peer typed f c.announce_part-i-in-loop-i.ensures c.announce_part-i-in-loop-i.auto.s,
     )
-
-pub shape_of-s : goal.shape_of-s
-shape_of-s c = c.loop-i.invariant.0 ∙ c.announce_part-i.auto.s
 
 pub returns : goal.returns
 returns c =

@@ -1,10 +1,10 @@
 -- `wrapping::offering::collect` meets its contract.
 use Prim.Native.Nat.{◌<◌}
-use mathlib.Core.Path.{◌≡◌, refl, ◌∙◌}
+use mathlib.Core.Path.{refl, ◌∙◌}
 use native.Mathlib.Omega.{arith}
 use lib.ListN.{length}
 use Rattle.lent_lists.specs.Items.{offers_in}
-use Rattle.wrapping.proofs.Gathered.{collects_start, collects_not, collects_more, collects_same}
+use Rattle.wrapping.proofs.Gathered.{collects_start, collects_not, collects_more}
 use Rattle.wrapping.proofs.offering.collect.Goals as goal
 use Rattle.wrapping.proofs.offering.collect.Goals.{in-Nothing, in-Waits}
 
@@ -14,28 +14,6 @@ loop-i-init c = (
       c.args.b.priorities.now) c.requires.2 c.requires.3,
   refl,
 )
-
-pub offered_at-c-requires : goal.offered_at-c-requires
-offered_at-c-requires c = omega (arith, c.loop-i-test.true, c.count-count.ensures)
-
-pub set_aside-requires : goal.set_aside-requires
-set_aside-requires c = (
-  c.requires.0,
-  omega (arith, c.requires.1, c.loop-i.invariant.1),
-  c.loop-i.invariant.0.few,
-)
-
-pub shape_of-new-in-Alone : goal.shape_of-new-in-Alone
-shape_of-new-in-Alone c = c.set_aside.auto.new ∙ c.loop-i.invariant.1
-
-pub returns-in-Alone : goal.returns-in-Alone
-returns-in-Alone c =
-    let inside : c.loop-i.i
-    < length (offers_in c.args.b.items.now
-    c.args.b.priorities.now) =
-    omega (arith, c.loop-i-test.true, c.count-count.ensures) in
-    collects_same c.loop-i.invariant.0 inside c.offered_at-c.ensures
-    c.set_aside.ensures c.in-Alone.is
 
 pub loop-i-preserved : goal.loop-i-preserved
 loop-i-preserved c =
@@ -48,9 +26,3 @@ loop-i-preserved c =
       ],
       c.set_aside.auto.new ∙ c.loop-i.invariant.1,
     )
-
-pub shape_of-new : goal.shape_of-new
-shape_of-new c = c.loop-i.invariant.1
-
-pub returns : goal.returns
-returns c = let e : c.count-count.result ≡ c.loop-i.i = omega arith in rw e c.loop-i.invariant.0
