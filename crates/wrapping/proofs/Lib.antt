@@ -1,4 +1,5 @@
 pub mod Completing
+pub mod Asked
 pub mod Parts
 pub mod Gathered
 pub mod Batching

@@ -1,9 +1,8 @@
 -- `wrapping::offering::announce_some` meets its contract.
 use Prim.Native.Nat.{◌+◌}
 use native.Mathlib.Omega.{arith}
-use Rattle.machine.proofs.Fail.{Peer}
 use Rattle.lent_lists.specs.Items.{offers_in}
-use Rattle.lent_lists.proofs.Inventory.{offers-fit}
+use Rattle.wrapping.proofs.Asked.{peer_of, batch_typed}
 use Rattle.wrapping.proofs.Gathered.{collects_in, part_kept, part_join}
 use Rattle.wrapping.proofs.offering.announce_some.Goals as goal
 
@@ -13,8 +12,8 @@ announce_one-requires-then-next-count c =
     c.args.b.items.now
     c.args.b.priorities.now
     in
-    let peer : Peer c.args.b.terms.connection.number = record { positive = c.args.b.terms.connection.positive; small = omega (arith, c.well_formed.1.0) } in
-    let typed = offers-fit _ _ c.args.b.bytes.0 c.args.b.bytes.1 in
+    let peer = peer_of c.args.b.terms.connection (omega (arith, c.well_formed.1.0)) in
+    let typed = batch_typed c.args.b in
     let came = collects_in c.collect-p.ensures c.come_in.ensures in (
       part_kept c.args.b.terms os
           c.args.first
@@ -27,8 +26,8 @@ announce_one-requires-then-next-count c =
 pub returns-then-next-count : goal.returns-then-next-count
 returns-then-next-count c =
     let os = offers_in c.args.b.items.now c.args.b.priorities.now in
-    let peer : Peer c.args.b.terms.connection.number = record { positive = c.args.b.terms.connection.positive; small = omega (arith, c.well_formed.1.0) } in
-    let typed = offers-fit _ _ c.args.b.bytes.0 c.args.b.bytes.1 in
+    let peer = peer_of c.args.b.terms.connection (omega (arith, c.well_formed.1.0)) in
+    let typed = batch_typed c.args.b in
     let came = collects_in c.collect-p.ensures
     c.come_in.ensures in
     record {

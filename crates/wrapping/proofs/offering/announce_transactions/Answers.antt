@@ -2,7 +2,7 @@
 use mathlib.Core.Path.{◌∙◌}
 use native.Mathlib.Omega.{arith}
 use Rattle.machine.specs.Typed.{Each, OfferTyped}
-use Rattle.machine.proofs.Fail.{Peer}
+use Rattle.wrapping.proofs.Asked.{peer_of}
 use Rattle.lent_lists.specs.Items.{offers_in}
 use Rattle.lent_lists.proofs.Inventory.{offers-fit}
 use Rattle.wrapping.specs.declared.offering.Terms.{Terms}
@@ -18,7 +18,7 @@ pub announce_part-i-requires-in-loop-i : goal.announce_part-i-requires-in-loop-i
 announce_part-i-requires-in-loop-i c =
     let a : Terms = record { connection = c.args.n; clock = c.args.clock; preferred = c.args.preferred; source = c.args.source; late = c.overloaded-late.result } in
     let os = offers_in c.args.items.now c.args.priorities.now in
-    let peer : Peer c.args.n.number = record { positive = c.args.n.positive; small = omega arith } in
+    let peer = peer_of c.args.n (omega arith) in
     let typed : Each OfferTyped os = offers-fit c.args.items.now c.args.priorities.now
     (λ j. omega (arith, c.type_inv.items j)) (λ j. omega (arith, c.type_inv.priorities j)) in
     let begun = batched_more (batched_start a os c.args.s.now) peer typed c.overloaded-late.ensures c.announce_part-i.ensures c.announce_part-i.auto.s in (
@@ -29,7 +29,7 @@ announce_part-i-requires-in-loop-i c =
 pub loop-i-preserved : goal.loop-i-preserved
 loop-i-preserved c =
     let os = offers_in c.args.items.now c.args.priorities.now in
-    let peer : Peer c.args.n.number = record { positive = c.args.n.positive; small = omega arith } in
+    let peer = peer_of c.args.n (omega arith) in
     let typed : Each OfferTyped os = offers-fit c.args.items.now c.args.priorities.now
     (λ j. omega (arith, c.type_inv.items j)) (λ j. omega (arith, c.type_inv.priorities j)) in (
       c.announce_part-i-in-loop-i.auto.s ∙ c.loop-i.invariant.0,
@@ -41,7 +41,7 @@ pub returns : goal.returns
 returns c =
     let a : Terms = record { connection = c.args.n; clock = c.args.clock; preferred = c.args.preferred; source = c.args.source; late = c.overloaded-late.result } in
     let os = offers_in c.args.items.now c.args.priorities.now in
-    let peer : Peer c.args.n.number = record { positive = c.args.n.positive; small = omega arith } in
+    let peer = peer_of c.args.n (omega arith) in
     let typed : Each OfferTyped os = offers-fit c.args.items.now c.args.priorities.now
     (λ j. omega (arith, c.type_inv.items j)) (λ j. omega (arith, c.type_inv.priorities j)) in
     let begun = batched_more (batched_start a os c.args.s.now) peer typed c.overloaded-late.ensures c.announce_part-i.ensures c.announce_part-i.auto.s in
