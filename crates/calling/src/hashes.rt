@@ -12,15 +12,15 @@ ghost use Rattle.printing.specs.Answers.{Keeping};
 use asking::vocabulary::HashesWord;
 use printing::numbers::{number, unreadable};
 use reading::forms::Values;
-use reading::hashes::{hash_buffer, hash_of, read_list};
+use reading::hashes::{hash_buffer, read_list};
 
 fn carry_out(store: &mut [u8], out: &mut [u8], w: HashesWord, v: Values, hashes: &[u8]) -> usize
     requires { answer_room ≤ length out.old }
     ensures { Carried (On (hashes_ask w (values_of v) (hashes_in hashes.now))) store.old store.new out.old out.new result }
 {
     let n = v.connection;
-    let subject = ident::Wtxid(hash_of(v.hash));
-    let combined = hash_of(v.combined);
+    let subject = ident::Wtxid(ident::Hash::from(v.hash));
+    let combined = ident::Hash::from(v.combined);
     let clock = v.clock;
     match w {
         HashesWord::SolicitPackageInfo => number(

@@ -15,14 +15,13 @@ use asking::vocabulary::KeysWord;
 use outcome::Refusal;
 use printing::keys::listing;
 use reading::forms::Values;
-use reading::hashes::hash_of;
 
 fn carry_out(store: &mut [u8], w: KeysWord, v: Values, answer: &mut [u8]) -> Result<u64, Refusal>
     requires { answer.old ≡ answer_buffer }
     ensures { LeavesWith (On (keys_ask w (values_of v))) store.old store.new answer.new (listing_of result) }
 {
     let key = key_of(v);
-    let subject = ident::Wtxid(hash_of(v.hash));
+    let subject = ident::Wtxid(ident::Hash::from(v.hash));
     match w {
         KeysWord::Sweep => public_requests::sweeps::sweep(store, answer),
         KeysWord::FailedWithParents => {

@@ -18,7 +18,6 @@ use asking::vocabulary::NumberWord;
 use outcome::Refusal;
 use printing::numbers::{figures, number, refusal};
 use reading::forms::Values;
-use reading::hashes::hash_of;
 
 pub fn answer_sum(store: &[u8], out: &mut [u8]) -> usize
     requires { answer_room ≤ length out.old }
@@ -34,7 +33,7 @@ fn candidate(v: Values) -> requests::Candidate
     ensures { candidate_of result ≡ candidate_in (values_of v) }
 {
     let kind = v.item;
-    let hash = hash_of(v.hash);
+    let hash = ident::Hash::from(v.hash);
     let item = ident::Item { kind, hash };
     requests::Candidate {
         connection: v.connection,
@@ -49,15 +48,15 @@ pub fn key_of(v: Values) -> ident::Key
     ensures { key_num result ≡ key_in (values_of v) }
 {
     let kind = v.kind;
-    let hash = hash_of(v.hash);
+    let hash = ident::Hash::from(v.hash);
     ident::Key { kind, hash }
 }
 
 fn response_completed(store: &mut [u8], v: Values) -> Result<u64, Refusal>
     ensures { Leaves (On (TransactionResponseCompleted v.connection (quad_number v.hash) (quad_number v.combined) v.clock)) store.old store.new (reply_of result) }
 {
-    let x = ident::Txid(hash_of(v.hash));
-    let w = ident::Wtxid(hash_of(v.combined));
+    let x = ident::Txid(ident::Hash::from(v.hash));
+    let w = ident::Wtxid(ident::Hash::from(v.combined));
     public_plans::wrappers::transaction_response_completed(store, v.connection, x, w, v.clock)
 }
 

@@ -10,7 +10,6 @@ ghost use Rattle.inventory.specs.Given.{listed_room, ItemPut, ItemsGiven};
 use lent_lists::ITEM;
 use lines::read::Named;
 use reading::fields::item_at;
-use reading::hashes::hash_of;
 use reading::list::{self, Element};
 
 // The most items that a line of 65,536 bytes can hold: each takes a comma, a letter and a digit or more.
@@ -30,7 +29,7 @@ pub fn put_item(items: &mut [u8], i: usize, item: Named<ident::ItemKind>)
     ensures { ItemPut items.old items.new i item.kind (quad_number item.hash) }
 {
     words::put(items, i * 5, u32::from(item.kind) as u64);
-    ident::put_hash(items, i * ITEM + 8, hash_of(item.hash));
+    ident::put_hash(items, i * ITEM + 8, ident::Hash::from(item.hash));
 }
 
 // An item of a list.

@@ -11,7 +11,6 @@ ghost use Rattle.inventory.specs.Given.{listed_room, KeysGiven};
 use lent_lists::KEY;
 use lines::read::Named;
 use reading::fields::key_at;
-use reading::hashes::hash_of;
 use reading::list::{self, Element};
 
 // The most keys that a line of 65,536 bytes can hold: each takes a comma, a letter and a digit or more.
@@ -31,9 +30,7 @@ fn put_key(keys: &mut [u8], i: usize, key: Named<ident::Kind>)
     requires { key_bytes * i + key_bytes ≤ length keys.old }
     ensures { Stored key_bytes key_in keys.old keys.new i (named_key key) }
 {
-    let kind = key.kind;
-    let hash = hash_of(key.hash);
-    lent_lists::put_key(keys, i, ident::Key { kind, hash });
+    lent_lists::put_key(keys, i, ident::Key::from(key));
 }
 
 // A key of a list.

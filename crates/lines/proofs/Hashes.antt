@@ -1,11 +1,8 @@
 -- Hashes digit by digit: one more hexadecimal digit, one fewer.
 use Prim.Native.Nat.{ℕ, ◌+◌, ◌*◌, ◌/◌, ◌%◌, ◌^◌, ◌<◌, ◌≤◌}
 use mathlib.Core.Path.{◌≡◌, refl, sym, ap, ◌∙◌}
-use mathlib.Core.Bool.{false}
 use mathlib.Core.Option.{none, some}
-use native.Mathlib.Nat.{pos_of_ne-zero}
 use native.Mathlib.Omega.{arith}
-use lib.Dec.{ltb}
 use borrow.Author.Tests.{lt-ltb, le-ltb}
 use Rattle.ident.specs.Number.{top}
 use Rattle.regions.specs.declared.Quad.{Quad}
@@ -103,44 +100,10 @@ last_digit q = rw (quad_four q) (sym (low q.w0 (q.w1 + 2 ^ 64 * (q.w2 + 2 ^ 64 *
 
 -- ---- a number of one digit
 
-more : (w : ℕ) {x : ℕ} → 0 < x → 0 < w + 2 ^ 64 * x
-more w h = omega arith
-
-kept : {w : ℕ} (x : ℕ) → 0 < w → 0 < w + 2 ^ 64 * x
-kept x h = omega arith
-
-large : (w : ℕ) {x : ℕ} → 0 < x → 16 ≤ w + 2 ^ 64 * x
-large w h = omega arith
-
 alone : (w x : ℕ) → w + 2 ^ 64 * x < 16 → w ≡ w + 2 ^ 64 * x
 alone w x g = omega arith
 
 module _ (q : Quad) where
-  large_w3 : 0 < q.w3 → 16 ≤ quad_number q
-  unfolding four
-  large_w3 h = rw (quad_four q) (large q.w0 (more q.w1 (more q.w2 h)))
-
-  large_w2 : 0 < q.w2 → 16 ≤ quad_number q
-  unfolding four
-  large_w2 h = rw (quad_four q) (large q.w0 (more q.w1 (kept q.w3 h)))
-
-  large_w1 : 0 < q.w1 → 16 ≤ quad_number q
-  unfolding four
-  large_w1 h = rw (quad_four q) (large q.w0 (kept (q.w2 + 2 ^ 64 * q.w3) h))
-
-  pub not_digit_3 : (q.w3 ≡ 0 → ⊥) → false ≡ ltb (quad_number q) 16
-  not_digit_3 h = sym (le-ltb (quad_number q) 16 (large_w3 (pos_of_ne-zero h)))
-
-  pub not_digit_2 : (q.w2 ≡ 0 → ⊥) → false ≡ ltb (quad_number q) 16
-  not_digit_2 h = sym (le-ltb (quad_number q) 16 (large_w2 (pos_of_ne-zero h)))
-
-  pub not_digit_1 : (q.w1 ≡ 0 → ⊥) → false ≡ ltb (quad_number q) 16
-  not_digit_1 h = sym (le-ltb (quad_number q) 16 (large_w1 (pos_of_ne-zero h)))
-
-  pub low_word : q.w3 ≡ 0 → q.w2 ≡ 0 → q.w1 ≡ 0 → q.w0 ≡ quad_number q
-  unfolding four
-  low_word h₃ h₂ h₁ = rw (quad_four q, h₃, h₂, h₁) (omega arith)
-
   -- of a number of one digit, that is the lowest word
   pub digit-word : quad_number q < 16 → q.w0 ≡ quad_number q
   unfolding four

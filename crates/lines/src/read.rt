@@ -2,9 +2,10 @@
 ghost use Rattle.std.specs.Prelude.{ℕ, ◌≡◌, ◌+◌, ◌^◌, ◌≤◌, length, drop};
 ghost use lib.Dec.{lit≤};
 ghost use Rattle.regions.specs.Rows.{quad_number};
+ghost use Rattle.ident.specs.Words.{key_num};
 ghost use Rattle.ident.specs.Number.{top};
 ghost use Rattle.machine.specs.Fields.{numeral_of, number_of, type_of, hash_of, bool_of, kind_of, key_of, letter_kind, other_kind, other_of, item_of, same_text, before};
-ghost use Rattle.lines.specs.Values.{value_in, with_digit, sixteen-top, number_in, hash_in, bool_in, key_in, item_kind_in, item_in};
+ghost use Rattle.lines.specs.Values.{value_in, with_digit, sixteen-top, named_key, number_in, hash_in, bool_in, key_in, item_kind_in, item_in};
 
 use crate::digits::value;
 
@@ -13,6 +14,27 @@ use crate::digits::value;
 pub struct Named<K> {
     pub kind: K,
     pub hash: regions::Quad,
+}
+
+// A key as the tracker takes it.
+impl From<Named<ident::Kind>> for ident::Key {
+    ghost from_gives = { λ n k. key_num k ≡ named_key n };
+
+    fn from(n: Named<ident::Kind>) -> ident::Key {
+        let Named { kind, hash } = n;
+        let hash = ident::Hash::from(hash);
+        ident::Key { kind, hash }
+    }
+}
+
+// A key as rows have it.
+impl From<Named<ident::Kind>> for regions::Key {
+    ghost from_gives = { λ n k. k ≡ record { kind = n.kind; hash = n.hash } };
+
+    fn from(n: Named<ident::Kind>) -> regions::Key {
+        let Named { kind, hash } = n;
+        regions::Key { kind, hash }
+    }
 }
 
 // ---- Numbers and hashes

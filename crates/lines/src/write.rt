@@ -27,16 +27,13 @@ pub fn put_decimal(s: &mut [u8], a: usize, n: u64) -> usize
 fn is_digit(q: regions::Quad) -> bool
     ensures { result ≡ ltb (quad_number q) 16 }
 {
-    if q.w3 != 0 {
-        return false;
-    }
-    if q.w2 != 0 {
-        return false;
-    }
-    if q.w1 != 0 {
-        return false;
-    }
-    q.w0 < 16
+    let sixteen = regions::Quad {
+        w0: 16,
+        w1: 0,
+        w2: 0,
+        w3: 0,
+    };
+    regions::quad_less(q, sixteen)
 }
 
 // q without its last hexadecimal digit.
@@ -75,7 +72,7 @@ pub fn put_bytes(s: &mut [u8], a: usize, t: &[u8]) -> usize
 }
 
 // The letter is of the texts: a kind's own conversion gives its number.
-fn kind_letter(k: ident::Kind) -> u8
+pub fn kind_letter(k: ident::Kind) -> u8
     ensures { result ≡ kind_letter k }
 {
     match k {

@@ -11,8 +11,7 @@ use Rattle.std.specs.Prelude as answer
 use Rattle.lines.specs.Values.{number_in}
 use Rattle.heavy.specs.Counters.{names_of, counts_of}
 use Rattle.heavy.specs.Streams.{owners_of, line_connections, line_owners}
-use Rattle.listed_lines.specs.declared.line.LineAt.{LineAt}
-use Rattle.listed_lines.specs.Given.{line_in, lines_of_text, LineRead}
+use Rattle.listed_lines.specs.Given.{LineAt, line_in, lines_of_text, LineRead}
 use Rattle.listed_form.proofs.Forms.{no-line_left}
 use Rattle.listed_form.proofs.Stepping.{parted}
 use Rattle.listed_counts.specs.Passes.{stream, owner_number, added, Adds, names_added, counts_added, counted_added, Notes, Counts, NotesAll, CountsAll}
@@ -52,10 +51,10 @@ pub record Left {S : Type 0} (f : List ℕ → S → List ℕ) (b : List ℕ) (f
   pub is : (ls : List Line) → lines_of_text (drop from b) ≡ some ls → LeftOf f b o (f (stream o ls) z) at s
 
 module _ {S : Type 0} (f : List ℕ → S → List ℕ) (g : Option ℕ → S → S) (step : (n : Option ℕ) (xs : List ℕ) (s : S) → f (behind n xs) s ≡ f xs (g n s)) {b : List ℕ} {o : Bool} where
-  one_line : {at : ℕ} {s : S} {l : LineAt} {ws ps all : List ℕ} → LeftOf f b o all at s → LineRead b at ws ps l → (n : Option ℕ) → n ≡ added o (line_in ws ps l.line)
+  one_line : {at : ℕ} {s : S} {l : LineAt} {ws ps all : List ℕ} → LeftOf f b o all at s → LineRead b at ws ps l → (n : Option ℕ) → n ≡ added o (line_in ws ps l.value)
       → LeftOf f b o all l.end (g n s)
   one_line {at} {s} {l} {ws} {ps} {all} y p n h =
-      let d = parted (line_in ws ps l.line) (lines_of_text (drop l.end b)) (sym p.is ∙ y.are) in
+      let d = parted (line_in ws ps l.value) (lines_of_text (drop l.end b)) (sym p.is ∙ y.are) in
       let k : added o (some d.first) ≡ n = sym (h ∙ ap (added o) d.is) in
       record {
         lines = d.others;
@@ -67,7 +66,7 @@ module _ {S : Type 0} (f : List ℕ → S → List ℕ) (g : Option ℕ → S �
   pub left_all : {from : ℕ} {z : S} → Left f b from o z from z
   left_all = record { is = λ ls e. record { lines = ls; are = e; same = refl } }
 
-  pub left_line : {from at : ℕ} {z s : S} {l : LineAt} {ws ps : List ℕ} {n : answer.Option ℕ} → Left f b from o z at s → LineRead b at ws ps l → Adds o l.line n
+  pub left_line : {from at : ℕ} {z s : S} {l : LineAt} {ws ps : List ℕ} {n : answer.Option ℕ} → Left f b from o z at s → LineRead b at ws ps l → Adds o l.value n
       → Left f b from o z l.end (g (number_in n) s)
   left_line {ws = ws} {ps = ps} {n = n} y p a = record { is = λ ls e. one_line (y.is ls e) p (number_in n) (a.is ws ps) }
 
@@ -106,7 +105,7 @@ module _ {b : List ℕ} {from : ℕ} {o : Bool} {ns₀ ks₀ : List ℕ} where
   pub note-begin : Noting b from o ns₀ ks₀ from ns₀ ks₀
   note-begin = left_all names_from noted names-behind
 
-  pub note_on : {at : ℕ} {ns ks ns' ks' ws ps : List ℕ} {l : LineAt} {n : answer.Option ℕ} → Noting b from o ns₀ ks₀ at ns ks → LineRead b at ws ps l → Adds o l.line n → Notes n ns ks ns' ks'
+  pub note_on : {at : ℕ} {ns ks ns' ks' ws ps : List ℕ} {l : LineAt} {n : answer.Option ℕ} → Noting b from o ns₀ ks₀ at ns ks → LineRead b at ws ps l → Adds o l.value n → Notes n ns ks ns' ks'
       → Noting b from o ns₀ ks₀ l.end ns' ks'
   note_on y p a h = rw (h.names, h.counts) (left_line names_from noted names-behind y p a)
 
@@ -138,7 +137,7 @@ pub count-begin : {b : List ℕ} {from : ℕ} {o : Bool} {ks₀ : List ℕ} (ns 
 count-begin ns = left_all (counts_from ns) (counted ns) (counts_behind ns)
 
 module _ {b : List ℕ} {from : ℕ} {o : Bool} {ns ks₀ : List ℕ} where
-  pub count_on : {at : ℕ} {ks ks' ws ps : List ℕ} {l : LineAt} {n : answer.Option ℕ} → Counting b from o ns ks₀ at ks → LineRead b at ws ps l → Adds o l.line n → Counts n ns ks ks'
+  pub count_on : {at : ℕ} {ks ks' ws ps : List ℕ} {l : LineAt} {n : answer.Option ℕ} → Counting b from o ns ks₀ at ks → LineRead b at ws ps l → Adds o l.value n → Counts n ns ks ks'
       → Counting b from o ns ks₀ l.end ks'
   count_on y p a h = rw h.counts (left_line (counts_from ns) (counted ns) (counts_behind ns) y p a)
 

@@ -1,4 +1,3 @@
 pub mod Placing
-pub mod Meeting
 pub mod Forms
 pub mod Stepping

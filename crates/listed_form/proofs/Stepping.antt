@@ -9,8 +9,7 @@ use Rattle.std.specs.Prelude.{if◌then◌else◌}
 use Rattle.machine.specs.State.{Candidate, Request, Table, State, with_candidates, is_some}
 use Rattle.machine.specs.Listing.{Line, HeadLine, RequestLine, CandidateLine, Rest, falls, candidate_then, request_then, rest_of, one_more, text_lines, lines_in}
 use Rattle.machine.proofs.Tests.{never}
-use Rattle.listed_lines.specs.declared.line.LineAt.{LineAt}
-use Rattle.listed_lines.specs.Given.{line_in, lines_of_text, LineRead}
+use Rattle.listed_lines.specs.Given.{LineAt, line_in, lines_of_text, LineRead}
 use Rattle.listed_form.specs.Given.{Body, requests_only}
 
 -- ---- the first of several lines
@@ -43,14 +42,14 @@ pub record AfterRequest (b : List ℕ) (end : ℕ) (r : Request) (q : Rest) : Ty
   pub body : Body b end (record { candidates = candidates; table = table })
 
 module _ {b ws ps : List ℕ} {at : ℕ} {l : LineAt} (p : LineRead b at ws ps l) {q : Rest} (y : Body b at q) where
-  line_there : Parted (line_in ws ps l.line) (lines_of_text (drop l.end b)) y.lines
-  line_there = parted (line_in ws ps l.line) (lines_of_text (drop l.end b)) (sym p.is ∙ y.are)
+  line_there : Parted (line_in ws ps l.value) (lines_of_text (drop l.end b)) y.lines
+  line_there = parted (line_in ws ps l.value) (lines_of_text (drop l.end b)) (sym p.is ∙ y.are)
 
   -- a line that is of no form, or a first line, is not among them
-  pub no-bad-line : {X : Type 0} → line_in ws ps l.line ≡ none → X
+  pub no-bad-line : {X : Type 0} → line_in ws ps l.value ≡ none → X
   no-bad-line e = let d = line_there in never (ap is_some (sym e ∙ d.is))
 
-  listed : (m : Line) → line_in ws ps l.line ≡ some m → rest_of (m ∷ line_there.others) ≡ some q
+  listed : (m : Line) → line_in ws ps l.value ≡ some m → rest_of (m ∷ line_there.others) ≡ some q
   listed m e =
       let d = line_there in
       let g : m ≡ d.first = same (sym e ∙ d.is) in
@@ -59,11 +58,11 @@ module _ {b ws ps : List ℕ} {at : ℕ} {l : LineAt} (p : LineRead b at ws ps l
       same : {m n : Line} → some m ≡ some n → m ≡ n
       same e = cc
 
-  pub no-head-line : {X : Type 0} {s : State} → line_in ws ps l.line ≡ some (HeadLine s) → X
+  pub no-head-line : {X : Type 0} {s : State} → line_in ws ps l.value ≡ some (HeadLine s) → X
   unfolding rest_of
   no-head-line {s = s} e = never (ap is_some (listed (HeadLine s) e))
 
-  pub after-candidate : (c : Candidate) → line_in ws ps l.line ≡ some (CandidateLine c) → AfterCandidate b l.end c q
+  pub after-candidate : (c : Candidate) → line_in ws ps l.value ≡ some (CandidateLine c) → AfterCandidate b l.end c q
   unfolding rest_of
   after-candidate c e = go (rest_of line_there.others) refl (listed (CandidateLine c) e)
     where
@@ -76,7 +75,7 @@ module _ {b ws ps : List ℕ} {at : ℕ} {l : LineAt} (p : LineRead b at ws ps l
           same : {m n : Rest} → some m ≡ some n → m ≡ n
           same e = cc
 
-  pub after-request : (r : Request) → line_in ws ps l.line ≡ some (RequestLine r) → AfterRequest b l.end r q
+  pub after-request : (r : Request) → line_in ws ps l.value ≡ some (RequestLine r) → AfterRequest b l.end r q
   unfolding rest_of
   after-request r e = go (rest_of line_there.others) refl (listed (RequestLine r) e)
     where

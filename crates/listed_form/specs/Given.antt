@@ -1,6 +1,8 @@
 -- What the contracts of pass 1 say.
 use Rattle.std.specs.Prelude.{ℕ, ◌≤◌, ◌≡◌, List, [], length, drop, Option, Some, None}
 use Rattle.std.proofs.Math.Option.{none, some}
+use Rattle.ident.specs.Number.{Key}
+use Rattle.regions.specs.declared.Key.{Key as RowKey}
 use Rattle.regions.specs.Rows.{quad_number}
 use Rattle.machine.specs.State.{Table, State, on_table}
 use Rattle.machine.specs.Listing.{Line, Rest, rest_of, read_listing}
@@ -8,21 +10,24 @@ use Rattle.listed_lines.specs.declared.cursor.Lines.{Lines}
 use Rattle.listed_lines.specs.declared.line.Line as line-line
 use Rattle.listed_lines.specs.declared.line.Head as line-head
 use Rattle.listed_lines.specs.Given.{head_state, line_in, lines_of_text}
-use Rattle.listed_form.specs.declared.Met as code-met
-use Rattle.listed_form.specs.declared.Met.TheVariants.{Start as MetNone, After as MetKey}
 use Rattle.listed_form.specs.Placed.{Met, Bad, Start, After, meets}
 
--- what the scan has met, in the code's words
-abbrev pub met_of : code-met.Met → Met
-met_of MetNone = Start
-met_of (MetKey k h) = After (record { kind = k; hash = quad_number h })
+-- a key as rows have it
+abbrev pub key_in : RowKey → Key
+key_in k = record { kind = k.kind; hash = quad_number k.hash }
 
-abbrev pub met_if : Option code-met.Met → Met
+-- what the scan has met, in the code's words: the key of the last request, if there was one
+abbrev pub met_of : Option RowKey → Met
+met_of None = Start
+met_of (Some k) = After (key_in k)
+
+-- behind one line more there was one, or the line may not stand there
+abbrev pub met_if : Option RowKey → Met
 met_if None = Bad
-met_if (Some m) = met_of m
+met_if (Some k) = After (key_in k)
 
 -- one line more, whatever lists it has
-pub record Meets (m : code-met.Met) (l : line-line.Line) (r : Option code-met.Met) : Type 0 where
+pub record Meets (m : Option RowKey) (l : line-line.Line) (r : Option RowKey) : Type 0 where
   pub is : (ws ps : List ℕ) → met_if r ≡ meets (met_of m) (line_in ws ps l)
 
 -- the lines of the text from index e on list q: candidates of a request before them, and requests

@@ -4,69 +4,43 @@
 // where the definition reads a state (`read_listing`, machine/specs/Listing), and which lines list it.
 #![tactic(auto)]
 
-ghost use Rattle.std.specs.Prelude.{◌≡◌, ◌≤◌, ltb, drop};
+ghost use Rattle.std.specs.Prelude.{◌≡◌, ltb, drop};
 ghost use Rattle.ident.specs.Number.{place};
-ghost use Rattle.regions.specs.Rows.{quad_number};
 ghost use Rattle.listed_lines.specs.Given.{lines_of_text};
-ghost use Rattle.listed_form.specs.Placed.{Start, meets_key, meets_candidate, placed_from};
-ghost use Rattle.listed_form.specs.Given.{met_of, met_if, Meets, FormRead};
+ghost use Rattle.listed_form.specs.Placed.{Start, meets_key, placed_from};
+ghost use Rattle.listed_form.specs.Given.{key_in, met_of, met_if, Meets, FormRead};
 
 use listed_lines::cursor::{Lines, Lists};
 use listed_lines::hash_lists::ROOM;
 use listed_lines::line::{Head, Line};
 
-// What a scan of the lines has met: no request yet, or the key of the last one. The states are those of the definition (`Met` of specs/Placed) but for its bad one, None here.
-#[derive(Clone, Copy)]
-pub enum Met {
-    Start,
-    After(ident::Kind, regions::Quad),
+// Whether the key a comes before b: by this clause rows' order is that of the places.
+pub fn comes_before(a: regions::Key, b: regions::Key) -> bool
+    ensures { result ≡ ltb (place (key_in a)) (place (key_in b)) }
+{
+    regions::key_less(a, b)
 }
 
-// Whether the key of kind k and hash h comes before that of kind l and hash g.
-pub fn comes_before(k: ident::Kind, h: regions::Quad, l: ident::Kind, g: regions::Quad) -> bool
-    ensures { result ≡ ltb (place (record { kind = k; hash = quad_number h })) (place (record { kind = l; hash = quad_number g })) }
+// A request of this key, behind the last one: it is the last one then, if its key does not come before that one's.
+fn meets_key(last: Option<regions::Key>, key: regions::Key) -> Option<regions::Key>
+    ensures { met_if result ≡ meets_key (met_of last) (key_in key) }
 {
-    match k {
-        ident::Kind::Txid => match l {
-            ident::Kind::Txid => regions::quad_less(h, g),
-            ident::Kind::Wtxid => true,
-        },
-        ident::Kind::Wtxid => match l {
-            ident::Kind::Txid => false,
-            ident::Kind::Wtxid => regions::quad_less(h, g),
-        },
-    }
-}
-
-fn meets_key(m: Met, kind: ident::Kind, hash: regions::Quad) -> Option<Met>
-    ensures { met_if result ≡ meets_key (met_of m) (record { kind = kind; hash = quad_number hash }) }
-{
-    if let Met::After(last, number) = m {
-        if comes_before(kind, hash, last, number) {
+    if let Some(k) = last {
+        if comes_before(key, k) {
             return None;
         }
     }
-    Some(Met::After(kind, hash))
+    Some(key)
 }
 
-fn meets_candidate(m: Met) -> Option<Met>
-    ensures { met_if result ≡ meets_candidate (met_of m) }
-{
-    match m {
-        Met::Start => None,
-        Met::After(_, _) => Some(m),
-    }
-}
-
-// One line more, if it may stand there.
-fn meets(m: Met, l: Line) -> Option<Met>
-    ensures { Meets m l result }
+// One line more: the key of the last request then, if the line may stand there. A candidate's may behind a request alone.
+fn meets(last: Option<regions::Key>, l: Line) -> Option<regions::Key>
+    ensures { Meets last l result }
 {
     match l {
-        Line::Not => None,
-        Line::Head(_) => None,
-        Line::Request(r) => meets_key(m, r.kind, r.hash),
-        Line::Candidate(_) => meets_candidate(m),
+        Line::Not | Line::Head(_) => None,
+        Line::Request(r) => meets_key(last, r.key),
+        Line::Candidate(_) => last,
     }
 }
 
@@ -74,12 +48,12 @@ fn meets(m: Met, l: Line) -> Option<Met>
 fn placed(mut lines: Lines, lists: &mut Lists) -> bool
     ensures { result ≡ placed_from Start (lines_of_text (drop lines.entry.at lines.entry.text.now)) }
 {
-    let mut met = Met::Start;
+    let mut last = None;
     while let Some(line) = lines.next(lists) {
-        let Some(m) = meets(met, line) else {
+        let Some(key) = meets(last, line) else {
             return false;
         };
-        met = m;
+        last = Some(key);
     }
     true
 }

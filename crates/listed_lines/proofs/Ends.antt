@@ -88,11 +88,11 @@ module _ (b : List ℕ) (at : ℕ) (h : at < length b) {end : ℕ} (g : end ≡ 
       ∙ rw (n, take-before, d)
 
   -- what line_at answers
-  pub line_none : {ws ps : List ℕ} → end ≡ length b → LineRead b at ws ps (record { line = Not; end = end })
+  pub line_none : {ws ps : List ℕ} → end ≡ length b → LineRead b at ws ps (record { value = Not; end = end })
   line_none e = record { is = no_end e (lines_of_text (drop end b)); on = omega arith; inside = omega arith }
 
   pub line_is : {ws ps : List ℕ} {r : line.Line} → (end ≡ length b → ⊥) → line_of short (fields (take (end - at) (drop at b))) ≡ line_in ws ps r
-      → LineRead b at ws ps (record { line = r; end = end + 1 })
+      → LineRead b at ws ps (record { value = r; end = end + 1 })
   line_is d e =
       let m : end < length b = omega (arith, before-length 10 (drop at b), length-drop at b) in
       record { is = line-ends m ∙ ap (λ (o : Option Line). one_more o (lines_of_text (drop (end + 1) b))) e; on = omega arith; inside = omega arith }

@@ -1,5 +1,5 @@
 -- What the contracts of the readers of a listing's lines say. The fields are read as the definition reads them (machine/specs/Listing).
-use Rattle.std.specs.Prelude.{ℕ, ◌+◌, ◌-◌, ◌<◌, ◌≤◌, ◌≡◌, Bool, true, false, List, [], ◌∷◌, length, drop}
+use Rattle.std.specs.Prelude.{ℕ, ◌+◌, ◌<◌, ◌≤◌, ◌≡◌, Bool, true, false, List, [], ◌∷◌, length, drop}
 use Rattle.std.specs.Prelude.{Option as Maybe, Some, None, IfSome, IsNone}
 use denote.Ref.{Bor}
 use Rattle.std.specs.Fn.{Once, FnOnceReturns}
@@ -9,7 +9,7 @@ use Rattle.ident.specs.Words.{hash_bytes}
 use Rattle.words.specs.Words.{number, recs}
 use Rattle.regions.specs.Rows.{quad_number}
 use Rattle.machine.specs.State.{Candidate, Owner, Package, Request, State}
-use Rattle.machine.specs.Fields.{before, rest, elements_then, same_text}
+use Rattle.machine.specs.Fields.{before, rest, same_text}
 use Rattle.machine.specs.Listing.{Line, HeadLine, RequestLine, CandidateLine, none_text, request_with, short, text_lines, one_more, lines_from}
 use Rattle.lines.specs.Values.{number_in, key_in}
 use Rattle.ident.specs.declared.Kind.{Kind}
@@ -21,7 +21,6 @@ use Rattle.listed_lines.specs.declared.parts.Package as parts-package
 use Rattle.listed_lines.specs.declared.line.Head as line-head
 use Rattle.listed_lines.specs.declared.line.Request as line-request
 use Rattle.listed_lines.specs.declared.line.Candidate as line-candidate
-use Rattle.listed_lines.specs.declared.line.LineAt.{LineAt}
 use Rattle.listed_lines.specs.declared.line.Line as line-line
 use Rattle.listed_lines.specs.declared.line.Line.TheVariants.{Not as NoLine, Head as IsHead, Request as IsRequest, Candidate as IsCandidate}
 
@@ -99,15 +98,6 @@ list_room = 3200
 abbrev pub hashes_of : ℕ → List ℕ → List ℕ
 hashes_of n b = recs hash_bytes (number 256) n b
 
--- n hashes, which stand in the bytes b
-abbrev pub hashes_at : ℕ → List ℕ → Maybe ℕ → Option (At (List ℕ))
-hashes_at n b None = none
-hashes_at n b (Some e) = some (record { value = hashes_of n b; end = e })
-
--- of the n elements in front of fs the first i are those of xs; the last field of these ends at index to
-pub record Underway {A : Type 0} (read : Reader A) (l : List ℕ) (fs : List (List ℕ)) (n to i : ℕ) (xs : List A) : Type 0 where
-  pub is : (k : List A → List (List ℕ) → Option Line) → elements_then read n [] k fs ≡ elements_then read (n - i) xs k (rest l (to + 1))
-
 -- a list behind its length
 abbrev pub list_at : List ℕ → Maybe (Parsed ℕ) → Option (At (List ℕ))
 list_at b r = parsed_in (λ n. hashes_of n b) r
@@ -143,7 +133,7 @@ head_state h = record { limit = h.limit; places = h.places; table = []; next_pol
 -- the request of a line, whose wtxids stand in the bytes ws and whose parents in ps
 abbrev pub request_in : List ℕ → List ℕ → line-request.Request → Request
 request_in ws ps r =
-    request_with (record { kind = r.kind; hash = quad_number r.hash }) (owner_of r.owner) r.info (package_of ws r.packed) (hashes_of r.parents ps) r.mark
+    request_with (record { kind = r.key.kind; hash = quad_number r.key.hash }) (owner_of r.owner) r.info (package_of ws r.packed) (hashes_of r.parents ps) r.mark
 
 abbrev pub candidate_in : line-candidate.Candidate → Candidate
 candidate_in c = record { connection = c.connection; item = record { kind = c.kind; hash = quad_number c.hash }; ready = c.ready; preferred = c.preferred; priority = c.priority }
@@ -171,7 +161,10 @@ unfoldable pub lines_of_text : List ℕ → Option (List Line)
 lines_of_text b = lines_from short (text_lines b)
 
 -- the text from index at on has the line r, and then the lines behind it; a line that is of no form leaves none
+abbrev pub LineAt : Type 0
+LineAt = Parsed line-line.Line
+
 pub record LineRead (b : List ℕ) (at : ℕ) (ws ps : List ℕ) (r : LineAt) : Type 0 where
-  pub is : lines_of_text (drop at b) ≡ one_more (line_in ws ps r.line) (lines_of_text (drop r.end b))
+  pub is : lines_of_text (drop at b) ≡ one_more (line_in ws ps r.value) (lines_of_text (drop r.end b))
   pub on : at < r.end
   pub inside : r.end ≤ length b

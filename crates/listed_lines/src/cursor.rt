@@ -31,7 +31,7 @@ impl<'a> Lines<'a> {
     // The next line, whose lists stand in the lent ones then. (No `Iterator`: it would have to hold them.)
     pub fn next(&mut self, lists: &mut Lists) -> Option<Line>
         ensures same { self.new.text ≡ self.old.text }
-        ensures line { IfSome result (λ l. LineRead self.old.text.now self.old.at lists.new.wtxids.now lists.new.parents.now (record { line = l; end = self.new.at })) }
+        ensures line { IfSome result (λ l. LineRead self.old.text.now self.old.at lists.new.wtxids.now lists.new.parents.now (record { value = l; end = self.new.at })) }
         ensures none { IsNone result → (length self.old.text.now ≤ self.old.at) × (self.new.at ≡ self.old.at) }
     {
         if self.is_empty() {
@@ -39,6 +39,6 @@ impl<'a> Lines<'a> {
         }
         let l = line_at(self.text, self.at, lists.wtxids, lists.parents);
         self.at = l.end;
-        Some(l.line)
+        Some(l.value)
     }
 }

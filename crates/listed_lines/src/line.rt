@@ -8,7 +8,7 @@ use crate::hash_lists::list_at;
 use crate::parts::{Owner, Package, owner_at, package_at};
 use crate::pieces::{first_key, first_number, maybe_key_at, maybe_number_at};
 use lines::read::Named;
-use reading::fields::{bool_at, item_at, number_at};
+use reading::fields::{Parsed, bool_at, item_at, number_at};
 
 // The first line: L, Q, next poll and cursors.
 #[derive(Clone, Copy)]
@@ -23,8 +23,7 @@ pub struct Head {
 // A request without its candidates; of its parents how many. (`info` and `mark` are bits of the line itself: none says whether another field has a value.)
 #[derive(Clone, Copy)]
 pub struct Request {
-    pub kind: ident::Kind,
-    pub hash: regions::Quad,
+    pub key: regions::Key,
     pub owner: Option<Owner>,
     pub info: bool,
     pub packed: Option<Package>,
@@ -50,13 +49,6 @@ pub enum Line {
     Head(Head),
     Request(Request),
     Candidate(Candidate),
-}
-
-// A line, and the index behind its line feed. (No `Parsed`: that is a part of a line, and ends in front of the comma behind it.)
-#[derive(Clone, Copy)]
-pub struct LineAt {
-    pub line: Line,
-    pub end: usize,
 }
 
 // ---- a line as one of each form, if it is one. (Its two lists are lent apart: `package_at` and `list_at` take one each, and `Lists` is for walks over lines.)
@@ -95,8 +87,7 @@ fn read_request(line: &[u8], wtxids: &mut [u8], parents: &mut [u8]) -> Option<Re
         return None;
     }
     Some(Request {
-        kind: key.value.kind,
-        hash: key.value.hash,
+        key: regions::Key::from(key.value),
         owner: owner.value,
         info: info.value,
         packed: packed.value,
@@ -143,18 +134,20 @@ pub fn line_in(line: &[u8], wtxids: &mut [u8], parents: &mut [u8]) -> Line
     }
 }
 
-// The line that starts at an index.
-pub fn line_at(text: &[u8], at: usize, wtxids: &mut [u8], parents: &mut [u8]) -> LineAt
+// The line that starts at an index; it ends behind its line feed.
+pub fn line_at(text: &[u8], at: usize, wtxids: &mut [u8], parents: &mut [u8]) -> Parsed<Line>
     requires { (at < length text.now) × (list_room ≤ length wtxids.old) × (list_room ≤ length parents.old) }
     ensures { LineRead text.now at wtxids.new parents.new result }
 {
     let end = lines::read::find(text, at, b'\n');
     if end == text.len() {
-        return LineAt {
-            line: Line::Not,
+        return Parsed {
+            value: Line::Not,
             end,
         };
     }
-    let line = line_in(&text[at..end], wtxids, parents);
-    LineAt { line, end: end + 1 }
+    Parsed {
+        value: line_in(&text[at..end], wtxids, parents),
+        end: end + 1,
+    }
 }

@@ -43,14 +43,14 @@ module _ {b : List ℕ} {i j : ℕ} {ws ps : List ℕ} {e d to : ℕ} where
   pub no_back : j < length b → NextRequest b j ws ps None to → Compared b i j Done e d
   no_back h n = record { is = λ p q a. absurd (n.missing refl h q a.back) }
 
-  pub wtxid_front : {r : line-request.Request} → NextRequest b i ws ps (Some r) to → {x : Bool} → x ≡ same_kind r.kind Wtxid → x ≡ true → Compared b i j Done e d
+  pub wtxid_front : {r : line-request.Request} → NextRequest b i ws ps (Some r) to → {x : Bool} → x ≡ same_kind r.key.kind Wtxid → x ≡ true → Compared b i j Done e d
   wtxid_front {r} n d g = record {
     is = λ p q a.
         let v = n.takes.is p a.front in
         let z = v.parts in
         let o = rw z at a.ordered in
         let x = with_candidates v.candidates (request_in ws ps r) in
-        let t : place x.key ≡ top + x.key.hash = ap (λ (y : Kind). base y + x.key.hash) (wtxid-kind r.kind (sym d ∙ g)) in
+        let t : place x.key ≡ top + x.key.hash = ap (λ (y : Kind). base y + x.key.hash) (wtxid-kind r.key.kind (sym d ∙ g)) in
         ap (pairs_fit most q) z ∙ no-txid most q (place x.key) (x ∷ v.table) (omega arith) (from_first x v.table o);
   }
 
@@ -74,7 +74,7 @@ moves : {b : List ℕ} {i j e d : ℕ} → i ≤ e → j ≤ d → i + j < e + d
 moves a c l z = record { is = record { on = a; on2 = c; less = l; is = z } }
 
 module _ {b : List ℕ} {i j : ℕ} {ws ps ws' ps' : List ℕ} {r w : line-request.Request} {f g : ℕ} (n : NextRequest b i ws ps (Some r) f) (m : NextRequest b j ws' ps' (Some w) g) {x : Bool}
-    (x-is : x ≡ same_kind r.kind Wtxid) (txid : x ≡ false) where
+    (x-is : x ≡ same_kind r.key.kind Wtxid) (txid : x ≡ false) where
   abbrev front : List Candidate → Request
   front cs = with_candidates cs (request_in ws ps r)
 
@@ -102,19 +102,19 @@ module _ {b : List ℕ} {i j : ℕ} {ws ps ws' ps' : List ℕ} {r w : line-reque
         fewer = rw t at a.fewer;
       }
 
-  is-txid : r.kind ≡ Txid
-  is-txid = txid-kind r.kind (sym x-is ∙ txid)
+  is-txid : r.key.kind ≡ Txid
+  is-txid = txid-kind r.key.kind (sym x-is ∙ txid)
 
   -- the test with the two in front
   with_both : {p q : Table} (t : Met b f g front back p q) → pairs_fit most q p ≡ pairs_fit most (back t.ds ∷ t.u) (front t.cs ∷ t.s)
   with_both {p} {q} t = ap (pairs_fit most q) t.first ∙ ap (λ (y : Table). pairs_fit most y (front t.cs ∷ t.s)) t.second
 
-  pub front_less : {y : Bool} → y ≡ ltb (quad_number r.hash) (quad_number w.hash) → y ≡ true → {to : ℕ} → PassesBelow b f to (quad_number w.hash)
+  pub front_less : {y : Bool} → y ≡ ltb (quad_number r.key.hash) (quad_number w.key.hash) → y ≡ true → {to : ℕ} → PassesBelow b f to (quad_number w.key.hash)
       → Compared b i j Next to j
   front_less {y} y-is y-true {to} s =
       moves (omega (arith, n.takes.on, s.on)) (omega arith) (omega (arith, n.takes.on, s.on)) (λ p q a.
       let t = meet p q a in
-      let l = ltb-true (quad_number r.hash) (quad_number w.hash) (sym y-is ∙ y-true) in
+      let l = ltb-true (quad_number r.key.hash) (quad_number w.key.hash) (sym y-is ∙ y-true) in
       let z = s.is (record { candidates = t.cs; table = t.s }) t.body (few_in (front t.cs) t.s t.few) (weaken t.s (omega arith) t.ordered.2)
       (others_few most (front t.cs) t.s t.few) in
       record {
@@ -125,12 +125,12 @@ module _ {b : List ℕ} {i j : ℕ} {ws ps ws' ps' : List ℕ} {r w : line-reque
             ∙ z.same (back t.ds) t.u t.above refl ∙ sym (ap (λ (y : Table). pairs_fit most y z.table) t.second);
       })
 
-  pub back_less : {y : Bool} → y ≡ ltb (quad_number w.hash) (quad_number r.hash) → y ≡ true → {to : ℕ} → Skips b g to
+  pub back_less : {y : Bool} → y ≡ ltb (quad_number w.key.hash) (quad_number r.key.hash) → y ≡ true → {to : ℕ} → Skips b g to
       → Compared b i j Next i to
   back_less {y} y-is y-true {to} s =
       moves (omega arith) (omega (arith, m.takes.on, s.on)) (omega (arith, m.takes.on, s.on)) (λ p q a.
       let t = meet p q a in
-      let l = ltb-true (quad_number w.hash) (quad_number r.hash) (sym y-is ∙ y-true) in
+      let l = ltb-true (quad_number w.key.hash) (quad_number r.key.hash) (sym y-is ∙ y-true) in
       record {
         p = p;
         q = t.u;
@@ -145,12 +145,12 @@ module _ {b : List ℕ} {i j : ℕ} {ws ps ws' ps' : List ℕ} {r w : line-reque
         same = with_both t ∙ back_first most (front t.cs) t.s (back t.ds) t.u t.ordered t.above is-txid l ∙ sym (ap (pairs_fit most t.u) t.first);
       })
 
-  module _ {y z : Bool} (y-is : y ≡ ltb (quad_number r.hash) (quad_number w.hash)) (y-no : y ≡ false) (z-is : z ≡ ltb (quad_number w.hash) (quad_number r.hash)) (z-no : z ≡ false)
+  module _ {y z : Bool} (y-is : y ≡ ltb (quad_number r.key.hash) (quad_number w.key.hash)) (y-no : y ≡ false) (z-is : z ≡ ltb (quad_number w.key.hash) (quad_number r.key.hash)) (z-no : z ≡ false)
       {fit : Bool} {e d : ℕ} (v : SideBySide b f r g w fit e d) where
-    same-hash : quad_number r.hash ≡ quad_number w.hash
+    same-hash : quad_number r.key.hash ≡ quad_number w.key.hash
     same-hash =
-        let l = ltb-false (quad_number r.hash) (quad_number w.hash) (sym y-is ∙ y-no) in
-        let k = ltb-false (quad_number w.hash) (quad_number r.hash) (sym z-is ∙ z-no) in
+        let l = ltb-false (quad_number r.key.hash) (quad_number w.key.hash) (sym y-is ∙ y-no) in
+        let k = ltb-false (quad_number w.key.hash) (quad_number r.key.hash) (sym z-is ∙ z-no) in
         omega arith
 
     fit_is : (cs ds : List Candidate) (s u : Table) → Body b f (record { candidates = cs; table = s }) → Body b g (record { candidates = ds; table = u })

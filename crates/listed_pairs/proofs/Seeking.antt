@@ -18,8 +18,7 @@ use Rattle.machine.specs.SoundTest.{every}
 use Rattle.machine.specs.Listing.{Line, HeadLine, RequestLine, CandidateLine, Rest}
 use Rattle.machine.proofs.At.{at_there}
 use Rattle.machine.proofs.Tests.{never}
-use Rattle.listed_lines.specs.declared.line.LineAt.{LineAt}
-use Rattle.listed_lines.specs.Given.{line_in, LineRead}
+use Rattle.listed_lines.specs.Given.{LineAt, line_in, LineRead}
 use Rattle.listed_form.specs.Given.{Body, requests_only}
 use Rattle.listed_form.proofs.Stepping.{after-candidate, after-request, no-bad-line, no-head-line, body_end}
 use Rattle.listed_requests.specs.Parts.{uncrowded}
@@ -50,9 +49,9 @@ wtxid-kind Wtxid e = refl
 wtxid-kind Txid e = never e
 
 module _ {b : List ℕ} {from i : ℕ} (u : Searched b from i) where
-  module _ {ws ps : List ℕ} {l : LineAt} (p : LineRead b i ws ps l) {x : Bool} (z : WtxidLine l.line x) where
+  module _ {ws ps : List ℕ} {l : LineAt} (p : LineRead b i ws ps l) {x : Bool} (z : WtxidLine l.value x) where
     pub search_on : x ≡ false → Searched b from l.end
-    search_on e = record { is = λ t y o f. next t (u.is t y o f) (line_in ws ps l.line) refl (sym (z.is ws ps) ∙ e) }
+    search_on e = record { is = λ t y o f. next t (u.is t y o f) (line_in ws ps l.value) refl (sym (z.is ws ps) ∙ e) }
       where
         past : (t q : Table) (r : Request) (cs : List Candidate) (s : Table) → r.key.kind ≡ Txid → q ≡ with_candidates cs r ∷ s → Ordered 0 q
             → every (uncrowded max_alternates) q ≡ true → ((h : ℕ) → at (wtxid h) t ≡ at (wtxid h) q) → Body b l.end (record { candidates = cs; table = s }) → Sought b l.end t
@@ -67,7 +66,7 @@ module _ {b : List ℕ} {from i : ℕ} (u : Searched b from i) where
               same = λ h. same h ∙ ap (at (wtxid h)) d ∙ at_there (wtxid h) (with_candidates cs r) s (λ g. omega (arith, o'.1));
             }
 
-        next : (t : Table) → Sought b i t → (c : Option Line) → line_in ws ps l.line ≡ c → wtxid_only c ≡ false → Sought b l.end t
+        next : (t : Table) → Sought b i t → (c : Option Line) → line_in ws ps l.value ≡ c → wtxid_only c ≡ false → Sought b l.end t
         next t a none d k = no-bad-line p a.body d
         next t a (some (HeadLine s)) d k = no-head-line p a.body d
         next t a (some (RequestLine r)) d k =
@@ -78,7 +77,7 @@ module _ {b : List ℕ} {from i : ℕ} (u : Searched b from i) where
             record { left = record { candidates = w.candidates; table = a.left.table }; body = w.body; ordered = a.ordered; few = a.few; same = a.same }
 
     pub search_found : x ≡ true → FirstWtxid b from i
-    search_found e = record { is = λ t y o f. found t (u.is t y o f) (line_in ws ps l.line) refl (sym (z.is ws ps) ∙ e) }
+    search_found e = record { is = λ t y o f. found t (u.is t y o f) (line_in ws ps l.value) refl (sym (z.is ws ps) ∙ e) }
       where
         above : (r : Request) (cs : List Candidate) (s t : Table) → r.key.kind ≡ Wtxid → t ≡ with_candidates cs r ∷ s → Ordered 0 t → Ordered top t
         above r cs s t k d o =
@@ -86,7 +85,7 @@ module _ {b : List ℕ} {from i : ℕ} (u : Searched b from i) where
             let v : place r.key ≡ top + r.key.hash = ap (λ (a : Kind). base a + r.key.hash) k in
             rw d (omega arith, o'.1, o'.2)
 
-        found : (t : Table) → Sought b i t → (c : Option Line) → line_in ws ps l.line ≡ c → wtxid_only c ≡ true → Behind b i t
+        found : (t : Table) → Sought b i t → (c : Option Line) → line_in ws ps l.value ≡ c → wtxid_only c ≡ true → Behind b i t
         found t a none d k = never k
         found t a (some (HeadLine s)) d k = never k
         found t a (some (CandidateLine c)) d k = never k

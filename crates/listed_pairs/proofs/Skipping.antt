@@ -30,7 +30,7 @@ few_in q t h = ((test_few max_alternates q.candidates).holds (first_few max_alte
 
 -- one more
 pub below_on : {b : List ℕ} {from i k : ℕ} → Below b from i k → {ws ps : List ℕ} {r : line-request.Request} {to : ℕ} → TakesRequest b i ws ps r to
-    → {x : Bool} → x ≡ same_kind r.kind Wtxid → x ≡ false → {y : Bool} → y ≡ ltb (quad_number r.hash) k → y ≡ true → {e : ℕ} → Skips b to e → Below b from e k
+    → {x : Bool} → x ≡ same_kind r.key.kind Wtxid → x ≡ false → {y : Bool} → y ≡ ltb (quad_number r.key.hash) k → y ≡ true → {e : ℕ} → Skips b to e → Below b from e k
 below_on {b} {from} {i} {k} a {ws} {ps} {r} n x-is x-no y-is y-yes {e} s = record {
   on = omega (arith, a.on, n.on, s.on);
   is = λ p y o c.
@@ -40,7 +40,7 @@ below_on {b} {from} {i} {k} a {ws} {ps} {r} n x-is x-no y-is y-yes {e} s = recor
       let q = with_candidates v.candidates (request_in ws ps r) in
       let o' = rw t at z.ordered in
       let c' = rw t at z.few in
-      let l = ltb-true (quad_number r.hash) k (sym y-is ∙ y-yes) in
+      let l = ltb-true (quad_number r.key.hash) k (sym y-is ∙ y-yes) in
       record {
         table = v.table;
         body = s.is (record { candidates = v.candidates; table = v.table }) v.body (few_in q v.table c');
@@ -48,7 +48,7 @@ below_on {b} {from} {i} {k} a {ws} {ps} {r} n x-is x-no y-is y-yes {e} s = recor
         few = others_few max_alternates q v.table c';
         same = λ w u g h.
             z.same w u g h ∙ ap (pairs_fit max_alternates (w ∷ u)) t
-            ∙ front_first max_alternates q v.table w u o' g (txid-kind r.kind (sym x-is ∙ x-no)) (first_few max_alternates q v.table c') (omega arith);
+            ∙ front_first max_alternates q v.table w u o' g (txid-kind r.key.kind (sym x-is ∙ x-no)) (first_few max_alternates q v.table c') (omega arith);
       };
 }
 

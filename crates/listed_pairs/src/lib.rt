@@ -1,20 +1,20 @@
 // A hash under both kinds: its Txid request and its Wtxid request together. Two walks go through the listing, one among the Txid requests and one among the
 // Wtxid requests; keys ascend, so each request is met once by each. No walk is a `for`: an `Iterator` has no lists to lend to `Lines::next`, and both walks go on by
-// more than a line at a time. `conns` is a slice, as `gather` takes it: of eight words or more.
+// more than a line at a time.
 #![tactic(auto)]
 
 ghost use Rattle.std.specs.Prelude.{◌≡◌, ◌<◌, ◌≤◌, length};
 ghost use Rattle.regions.specs.Rows.{quad_number};
-ghost use Rattle.listed_requests.specs.Given.{most_gathered};
 ghost use Rattle.listed_pairs.specs.Given.{WtxidLine, FirstWtxid, Skips, Below, PassesBelow, SideBySide, Compared, PairsFit};
 
 use listed_lines::cursor::{Lines, Lists};
 use listed_lines::hash_lists::ROOM;
 use listed_lines::line::{Line, Request};
-use listed_requests::candidates::gather;
+use listed_requests::candidates::{Room, gather};
 use listed_requests::distinct::all_distinct;
 use listed_requests::forms::next_request;
 use listed_requests::lawful::is_wtxid;
+use machine::limits::MAX_ALTERNATES;
 
 // Of two requests: they do not fit together; no Txid request is left; the next two are to be compared.
 #[derive(Clone, Copy)]
@@ -28,7 +28,7 @@ pub enum Pair {
 fn wtxid_line(l: Line) -> bool
     ensures { WtxidLine l result }
 {
-    matches!(l, Line::Request(r) if is_wtxid(r.kind))
+    matches!(l, Line::Request(r) if is_wtxid(r.key.kind))
 }
 
 // The lines from that of the first Wtxid request on.
@@ -48,41 +48,38 @@ fn first_wtxid<'a>(lines: Lines<'a>, lists: &mut Lists) -> Lines<'a>
 }
 
 // Passes the candidates of a request.
-fn skip(lines: &mut Lines, r: Request, conns: &mut [u64], lists: &mut Lists)
-    requires { most_gathered ≤ length conns.old }
+fn skip(lines: &mut Lines, r: Request, room: &mut Room)
     ensures same { lines.new.text ≡ lines.old.text }
     ensures skips { Skips lines.old.text.now lines.old.at lines.new.at }
 {
-    let _ = gather(lines, r.kind, r.hash, 0, conns, lists);
+    let _ = gather(lines, r.key, 0, room);
 }
 
 // Passes the Txid requests whose hash is below k.
-fn below(lines: &mut Lines, k: regions::Quad, conns: &mut [u64], lists: &mut Lists)
-    requires { most_gathered ≤ length conns.old }
+fn below(lines: &mut Lines, k: regions::Quad, room: &mut Room)
     ensures same { lines.new.text ≡ lines.old.text }
     ensures below { Below lines.old.text.now lines.old.at lines.new.at (quad_number k) }
 {
     let mut behind = *lines;
-    while let Some(r) = next_request(&mut behind, lists) {
-        if is_wtxid(r.kind) {
+    while let Some(r) = next_request(&mut behind, &mut room.lists) {
+        if is_wtxid(r.key.kind) {
             return;
         }
-        if !regions::quad_less(r.hash, k) {
+        if !regions::quad_less(r.key.hash, k) {
             return;
         }
-        skip(&mut behind, r, conns, lists);
+        skip(&mut behind, r, room);
         *lines = behind;
     }
 }
 
 // The same, from the candidates of a request on. A long line of the Wtxid request with hash k is not read again for each of them.
-fn pass_below(lines: &mut Lines, r: Request, k: regions::Quad, conns: &mut [u64], lists: &mut Lists)
-    requires { most_gathered ≤ length conns.old }
+fn pass_below(lines: &mut Lines, r: Request, k: regions::Quad, room: &mut Room)
     ensures same { lines.new.text ≡ lines.old.text }
     ensures passes { PassesBelow lines.old.text.now lines.old.at lines.new.at (quad_number k) }
 {
-    skip(lines, r, conns, lists);
-    below(lines, k, conns, lists);
+    skip(lines, r, room);
+    below(lines, k, room);
 }
 
 // Whether two requests of one hash, whose candidates come next, fit together. Passes the candidates.
@@ -91,51 +88,50 @@ fn side_by_side(
     r: Request,
     back: &mut Lines,
     w: Request,
-    conns: &mut [u64],
-    lists: &mut Lists,
+    room: &mut Room,
 ) -> bool
-    requires { (back.old.text ≡ front.old.text) × (most_gathered ≤ length conns.old) }
+    requires { back.old.text ≡ front.old.text }
     ensures same { (front.new.text ≡ front.old.text) × (back.new.text ≡ back.old.text) }
     ensures together { SideBySide front.old.text.now front.old.at r back.old.at w result front.new.at back.new.at }
 {
-    let Some(a) = gather(front, r.kind, r.hash, 0, conns, lists) else {
+    let Some(a) = gather(front, r.key, 0, room) else {
         return false;
     };
-    let Some(b) = gather(back, w.kind, w.hash, a.count, conns, lists) else {
+    let Some(b) = gather(back, w.key, a.count, room) else {
         return false;
     };
-    let once = all_distinct(&conns[..b.count]);
+    let once = all_distinct(&room.conns[..b.count]);
     once & !(r.owner.is_some() & w.owner.is_some())
 }
 
 // The requests that come next: a Txid request, unless none is left, and a Wtxid request. Passes the lesser one, and those that fit together.
-fn compare(front: &mut Lines, back: &mut Lines, conns: &mut [u64], lists: &mut Lists) -> Pair
-    requires { (back.old.text ≡ front.old.text) × (front.old.at < length front.old.text.now) × (back.old.at < length back.old.text.now) × (most_gathered ≤ length conns.old) }
+fn compare(front: &mut Lines, back: &mut Lines, room: &mut Room) -> Pair
+    requires { (back.old.text ≡ front.old.text) × (front.old.at < length front.old.text.now) × (back.old.at < length back.old.text.now) }
     ensures same { (front.new.text ≡ front.old.text) × (back.new.text ≡ back.old.text) }
     ensures compared { Compared front.old.text.now front.old.at back.old.at result front.new.at back.new.at }
 {
     let mut first = *front;
-    let Some(r) = next_request(&mut first, lists) else {
+    let Some(r) = next_request(&mut first, &mut room.lists) else {
         return Pair::Done;
     };
-    if is_wtxid(r.kind) {
+    if is_wtxid(r.key.kind) {
         return Pair::Done;
     }
     let mut second = *back;
-    let Some(w) = next_request(&mut second, lists) else {
+    let Some(w) = next_request(&mut second, &mut room.lists) else {
         return Pair::Done;
     };
-    if regions::quad_less(r.hash, w.hash) {
-        pass_below(&mut first, r, w.hash, conns, lists);
+    if regions::quad_less(r.key.hash, w.key.hash) {
+        pass_below(&mut first, r, w.key.hash, room);
         *front = first;
         return Pair::Next;
     }
-    if regions::quad_less(w.hash, r.hash) {
-        skip(&mut second, w, conns, lists);
+    if regions::quad_less(w.key.hash, r.key.hash) {
+        skip(&mut second, w, room);
         *back = second;
         return Pair::Next;
     }
-    if !side_by_side(&mut first, r, &mut second, w, conns, lists) {
+    if !side_by_side(&mut first, r, &mut second, w, room) {
         return Pair::Unfit;
     }
     *front = first;
@@ -149,18 +145,21 @@ pub fn pairs_fit(lines: Lines) -> bool
 {
     let mut wtxids = [0; ROOM];
     let mut parents = [0; ROOM];
-    let mut lists = Lists {
-        wtxids: &mut wtxids,
-        parents: &mut parents,
+    let mut conns = [0; MAX_ALTERNATES];
+    let mut room = Room {
+        lists: Lists {
+            wtxids: &mut wtxids,
+            parents: &mut parents,
+        },
+        conns: &mut conns,
     };
-    let mut conns = [0u64; 8];
     let mut front = lines;
-    let mut back = first_wtxid(lines, &mut lists);
+    let mut back = first_wtxid(lines, &mut room.lists);
     while !back.is_empty() {
         if front.is_empty() {
             return true;
         }
-        match compare(&mut front, &mut back, &mut conns, &mut lists) {
+        match compare(&mut front, &mut back, &mut room) {
             Pair::Unfit => return false,
             Pair::Done => return true,
             Pair::Next => {}

@@ -17,11 +17,11 @@ use Rattle.machine.proofs.Tests.{never}
 use Rattle.listed_lines.specs.declared.parts.Package as parts-package
 use Rattle.listed_lines.specs.declared.line.Request as line-request
 use Rattle.listed_lines.specs.Given.{package_of, request_in}
-use Rattle.listed_form.specs.Given.{Body, requests_only}
+use Rattle.listed_form.specs.Given.{key_in, Body, requests_only}
 use Rattle.listed_form.proofs.Stepping.{body_end}
 use Rattle.listed_requests.specs.Parts.{one_fits, local_fits, pass_fits}
 use Rattle.listed_requests.specs.declared.each.Pass.{Pass}
-use Rattle.listed_requests.specs.Given.{key_with, NextRequest, Judged, lowest_of, left_fits, place_for, Stepped, EachFits}
+use Rattle.listed_requests.specs.Given.{NextRequest, Judged, lowest_of, left_fits, place_for, Stepped, EachFits}
 use Rattle.listed_requests.proofs.Passing.{local_is}
 
 -- ---- the test of a request with those behind it
@@ -99,7 +99,7 @@ module _ {b : List ℕ} {at : ℕ} {ws ps : List ℕ} (L Q : ℕ) (p : Pass) whe
         let d = v.parts in
         ap (left_fits L Q p) d ∙ z v.candidates v.table v.body (rw d at l))
 
-    pub stops-order : {x : Bool} {end : ℕ} → x ≡ leb (lowest_of p) (place (key_with r.kind r.hash)) → x ≡ false → Stepped b at L Q p None end
+    pub stops-order : {x : Bool} {end : ℕ} → x ≡ leb (lowest_of p) (place (key_in r.key)) → x ≡ false → Stepped b at L Q p None end
     stops-order d g = stops_at (λ cs t y l. not-above (limits L) Q (lowest_of p) p.held p.taken (asked cs) t (sym d ∙ g))
 
     listed_one : (cs : List Candidate) (t : Table) → TableListed (asked cs ∷ t) → RequestListed (request_in ws ps r)
@@ -126,8 +126,8 @@ module _ {b : List ℕ} {at : ℕ} {ws ps : List ℕ} (L Q : ℕ) (p : Pass) whe
         stops-taken h = stops_at (λ cs t y l.
             not_placed (limits L) Q (lowest_of p) p.held p.taken (asked cs) t (lt-leb (p.taken + place_in (asked cs).info (asked cs).«package») Q (omega (arith, place_is cs))))
 
-        pub goes_on_lem : {held : ℕ} {x : Bool} → x ≡ leb (lowest_of p) (place (key_with r.kind r.hash)) → x ≡ true → held ≡ p.held + m → held ≤ L → taken ≤ Q
-            → Stepped b at L Q p (Some (record { last = Some (r.kind, r.hash); held = held; taken = taken })) end
+        pub goes_on_lem : {held : ℕ} {x : Bool} → x ≡ leb (lowest_of p) (place (key_in r.key)) → x ≡ true → held ≡ p.held + m → held ≤ L → taken ≤ Q
+            → Stepped b at L Q p (Some (record { last = Some r.key; held = held; taken = taken })) end
         goes_on_lem {held} {x} d o a u v = record {
           goes_on = record {
             on = omega (arith, n.takes.on, j.on);
@@ -148,7 +148,7 @@ module _ {b : List ℕ} {at : ℕ} {ws ps : List ℕ} (L Q : ℕ) (p : Pass) whe
         }
           where
             same : (cs : List Candidate) (t : Table) → Body b to (record { candidates = cs; table = t }) → TableListed (asked cs ∷ t)
-                → pass_fits (limits L) Q (lowest_of p) p.held p.taken (asked cs ∷ t) ≡ pass_fits (limits L) Q (suc (place (key_with r.kind r.hash))) held taken t
+                → pass_fits (limits L) Q (lowest_of p) p.held p.taken (asked cs ∷ t) ≡ pass_fits (limits L) Q (suc (place (key_in r.key))) held taken t
             same cs t y l =
                 let q = asked cs in
                 let h : p.held + length cs ≡ held = omega (arith, counted cs t y) in

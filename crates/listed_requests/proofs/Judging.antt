@@ -27,10 +27,10 @@ use Rattle.listed_lines.specs.declared.line.Request as line-request
 use Rattle.listed_lines.specs.declared.parts.Owner as parts-owner
 use Rattle.listed_lines.specs.declared.parts.Package as parts-package
 use Rattle.listed_lines.specs.Given.{hashes_of, owner_of, package_of, request_in}
-use Rattle.listed_form.specs.Given.{Body}
+use Rattle.listed_form.specs.Given.{key_in, Body}
 use Rattle.listed_requests.specs.Parts.{few_once, line_fits, one_fits}
 use Rattle.listed_requests.specs.declared.candidates.Gathered.{Gathered}
-use Rattle.listed_requests.specs.Given.{key_with, Gathers, packs, owner_among, LineFits, Judged}
+use Rattle.listed_requests.specs.Given.{Gathers, packs, owner_among, LineFits, Judged}
 
 and-true : (x : Bool) → (x && true) ≡ x
 and-true true = refl
@@ -80,24 +80,24 @@ package-there ws None = refl
 package-there ws (Some p) = refl
 
 abbrev pub packs_in : line-request.Request → Bool
-packs_in r = packs r.kind (is_there r.owner) r.info (is_there r.packed) r.parents
+packs_in r = packs r.key.kind (is_there r.owner) r.info (is_there r.packed) r.parents
 
 module _ (ps : List ℕ) (r : line-request.Request) where
   pub many-hashes : length (hashes_of r.parents ps) ≡ r.parents
   many-hashes = length-recs hash_bytes (number 256) r.parents ps
 
   module _ (ws : List ℕ) (l : RequestListed (request_in ws ps r)) where
-    line_is : line_fits (request_in ws ps r) ≡ (packs_in r && (no_repeat (hashes_of r.parents ps) && mark_fits r.kind r.mark))
+    line_is : line_fits (request_in ws ps r) ≡ (packs_in r && (no_repeat (hashes_of r.parents ps) && mark_fits r.key.kind r.mark))
     unfolding line_fits
     line_is =
         let q = request_in ws ps r in
         let a = packed_is q.key.kind q.owner q.info q.«package» q.parents l.packed in
-        let b = ap (λ (x : Bool). packs r.kind x r.info (is_some q.«package») (length q.parents)) (owner-there r.owner) in
-        let c = ap (λ (x : Bool). packs r.kind (is_there r.owner) r.info x (length q.parents)) (package-there ws r.packed) in
-        let d = ap (λ (x : ℕ). packs r.kind (is_there r.owner) r.info (is_there r.packed) x) many-hashes in
+        let b = ap (λ (x : Bool). packs r.key.kind x r.info (is_some q.«package») (length q.parents)) (owner-there r.owner) in
+        let c = ap (λ (x : Bool). packs r.key.kind (is_there r.owner) r.info x (length q.parents)) (package-there ws r.packed) in
+        let d = ap (λ (x : ℕ). packs r.key.kind (is_there r.owner) r.info (is_there r.packed) x) many-hashes in
         let e = parents-fit q.parents l.parents in
-        ap (λ (x : Bool). x && (parents_fit q.parents && mark_fits r.kind r.mark)) (a ∙ b ∙ c ∙ d)
-        ∙ ap (λ (x : Bool). packs_in r && (x && mark_fits r.kind r.mark)) e
+        ap (λ (x : Bool). x && (parents_fit q.parents && mark_fits r.key.kind r.mark)) (a ∙ b ∙ c ∙ d)
+        ∙ ap (λ (x : Bool). packs_in r && (x && mark_fits r.key.kind r.mark)) e
 
     few_parents : r.parents ≤ max_parents
     few_parents = omega (arith, many-hashes, l.parents.most)
@@ -107,19 +107,19 @@ module _ (ps : List ℕ) (r : line-request.Request) where
 
   pub parent-twice : no_repeat (hashes_of r.parents ps) ≡ false → LineFits ps r false
   parent-twice e = record {
-    is = λ ws l. sym (line_is ws l ∙ ap (λ (x : Bool). packs_in r && (x && mark_fits r.kind r.mark)) e ∙ and-false (packs_in r));
+    is = λ ws l. sym (line_is ws l ∙ ap (λ (x : Bool). packs_in r && (x && mark_fits r.key.kind r.mark)) e ∙ and-false (packs_in r));
   }
 
-  pub mark-misplaced : no_repeat (hashes_of r.parents ps) ≡ true → mark_fits r.kind r.mark ≡ false → LineFits ps r false
+  pub mark-misplaced : no_repeat (hashes_of r.parents ps) ≡ true → mark_fits r.key.kind r.mark ≡ false → LineFits ps r false
   mark-misplaced e d = record {
-    is = λ ws l. sym (line_is ws l ∙ ap (λ (x : Bool). packs_in r && (x && mark_fits r.kind r.mark)) e
+    is = λ ws l. sym (line_is ws l ∙ ap (λ (x : Bool). packs_in r && (x && mark_fits r.key.kind r.mark)) e
         ∙ ap (λ (x : Bool). packs_in r && x) d ∙ and-false (packs_in r));
   }
 
-  pub by_package : {b : Bool} → no_repeat (hashes_of r.parents ps) ≡ true → mark_fits r.kind r.mark ≡ true
+  pub by_package : {b : Bool} → no_repeat (hashes_of r.parents ps) ≡ true → mark_fits r.key.kind r.mark ≡ true
       → b ≡ packs_in r → LineFits ps r b
   by_package e d f = record {
-    is = λ ws l. f ∙ sym (line_is ws l ∙ ap (λ (x : Bool). packs_in r && (x && mark_fits r.kind r.mark)) e
+    is = λ ws l. f ∙ sym (line_is ws l ∙ ap (λ (x : Bool). packs_in r && (x && mark_fits r.key.kind r.mark)) e
         ∙ ap (λ (x : Bool). packs_in r && x) d ∙ and-true (packs_in r));
   }
 
@@ -201,14 +201,14 @@ module _ {b : List ℕ} {from : ℕ} {ps : List ℕ} {r : line-request.Request} 
   }
 
   module _ {w w' : List ℕ} {end : ℕ} where
-    pub judged_many : Gathers b from (key_with r.kind r.hash) 0 w w' None end → Judged b from ps r None end
+    pub judged_many : Gathers b from (key_in r.key) 0 w w' None end → Judged b from ps r None end
     judged_many a = record {
       on = a.on;
       lawful = tt;
       unlawful = λ d ws q y l. sym (too_many ws ps r l q.candidates (omega (arith, a.many refl q y)));
     }
 
-    module _ {g : Gathered} (a : Gathers b from (key_with r.kind r.hash) 0 w w' (Some g) end) {n o : Bool} (e : f ≡ true) (once : n ≡ no_repeat (take g.count w'))
+    module _ {g : Gathered} (a : Gathers b from (key_in r.key) 0 w w' (Some g) end) {n o : Bool} (e : f ≡ true) (once : n ≡ no_repeat (take g.count w'))
         (owner : o ≡ owner_among (owner_of r.owner) (take g.count w')) where
       one_fit : (ws : List ℕ) (q : Rest) → Body b from q → RequestListed (request_in ws ps r)
           → (((g.fit && n) && o) && ltb 0 g.count) ≡ one_fits max_alternates (with_candidates q.candidates (request_in ws ps r))

@@ -8,18 +8,17 @@ use Rattle.std.specs.Prelude.{Some, None}
 use Rattle.machine.specs.State.{Table}
 use Rattle.machine.specs.Listing.{Rest}
 use Rattle.machine.proofs.Tests.{never}
-use Rattle.listed_lines.specs.declared.line.LineAt.{LineAt}
 use Rattle.listed_lines.specs.declared.line.Line as line-line
 use Rattle.listed_lines.specs.declared.line.Line.TheVariants.{Not as NoLine, Head as IsHead, Request as IsRequest, Candidate as IsCandidate}
 use Rattle.listed_lines.specs.declared.line.Request as line-request
 use Rattle.listed_lines.specs.declared.line.Candidate as line-candidate
-use Rattle.listed_lines.specs.Given.{request_in, candidate_in, line_in, LineRead}
+use Rattle.listed_lines.specs.Given.{LineAt, request_in, candidate_in, line_in, LineRead}
 use Rattle.listed_form.specs.Given.{Body, requests_only}
 use Rattle.listed_form.proofs.Stepping.{after-candidate, after-request, no-bad-line, no-head-line, body_end}
 use Rattle.listed_requests.specs.Given.{NextCandidate, NextRequest}
 
 module _ {b ws ps : List ℕ} {at : ℕ} {l : LineAt} (p : LineRead b at ws ps l) where
-  pub candidate_next : {c : line-candidate.Candidate} → l.line ≡ IsCandidate c → NextCandidate b at (Some c) l.end
+  pub candidate_next : {c : line-candidate.Candidate} → l.value ≡ IsCandidate c → NextCandidate b at (Some c) l.end
   candidate_next {c} e = record {
     takes = record {
       on = p.on;
@@ -29,16 +28,16 @@ module _ {b ws ps : List ℕ} {at : ℕ} {l : LineAt} (p : LineRead b at ws ps l
   }
 
   -- before a line of another form no candidate is left
-  pub other_next : ((c : line-candidate.Candidate) → l.line ≡ IsCandidate c → ⊥) → NextCandidate b at None at
-  other_next other = record { takes = tt; stays = λ d. record { stays = refl; is = λ q y. by_line l.line refl y } }
+  pub other_next : ((c : line-candidate.Candidate) → l.value ≡ IsCandidate c → ⊥) → NextCandidate b at None at
+  other_next other = record { takes = tt; stays = λ d. record { stays = refl; is = λ q y. by_line l.value refl y } }
     where
-      by_line : (m : line-line.Line) → l.line ≡ m → {q : Rest} → Body b at q → q.candidates ≡ []
+      by_line : (m : line-line.Line) → l.value ≡ m → {q : Rest} → Body b at q → q.candidates ≡ []
       by_line NoLine e y = no-bad-line p y (ap (line_in ws ps) e)
       by_line (IsHead h) e y = no-head-line p y (ap (line_in ws ps) e)
       by_line (IsRequest r) e y = (after-request p y (request_in ws ps r) (ap (line_in ws ps) e)).first
       by_line (IsCandidate c) e y = absurd (other c e)
 
-  pub request_next : {r : line-request.Request} → l.line ≡ IsRequest r → NextRequest b at ws ps (Some r) l.end
+  pub request_next : {r : line-request.Request} → l.value ≡ IsRequest r → NextRequest b at ws ps (Some r) l.end
   request_next {r} e = record {
     on = omega (arith, p.on);
     moves = λ h. p.on;
@@ -51,10 +50,10 @@ module _ {b ws ps : List ℕ} {at : ℕ} {l : LineAt} (p : LineRead b at ws ps l
     missing = λ d. never (sym d);
   }
 
-  pub no-request : ((r : line-request.Request) → l.line ≡ IsRequest r → ⊥) → NextRequest b at ws ps None l.end
-  no-request other = record { on = omega (arith, p.on); moves = λ h. p.on; takes = tt; missing = λ d h t y. by_line l.line refl y }
+  pub no-request : ((r : line-request.Request) → l.value ≡ IsRequest r → ⊥) → NextRequest b at ws ps None l.end
+  no-request other = record { on = omega (arith, p.on); moves = λ h. p.on; takes = tt; missing = λ d h t y. by_line l.value refl y }
     where
-      by_line : (m : line-line.Line) → l.line ≡ m → {t : Table} → Body b at (requests_only t) → ⊥
+      by_line : (m : line-line.Line) → l.value ≡ m → {t : Table} → Body b at (requests_only t) → ⊥
       by_line NoLine e y = no-bad-line p y (ap (line_in ws ps) e)
       by_line (IsHead h) e y = no-head-line p y (ap (line_in ws ps) e)
       by_line (IsRequest r) e y = other r e

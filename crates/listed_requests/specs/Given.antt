@@ -4,8 +4,7 @@ use Rattle.std.proofs.Math.Option.{Option, none, some}
 use Rattle.ident.specs.declared.Kind.{Kind}
 use Rattle.ident.specs.declared.Kind.TheVariants.{Wtxid}
 use Rattle.ident.specs.Number.{Key, place}
-use Rattle.regions.specs.declared.Quad.{Quad}
-use Rattle.regions.specs.Rows.{quad_number}
+use Rattle.regions.specs.declared.Key.{Key as RowKey}
 use Rattle.machine.specs.Limits.{max_announcements, max_places, max_alternates}
 use Rattle.machine.specs.State.{Candidate, Owner, Request, Table, with_candidates}
 use Rattle.machine.specs.Table.{one}
@@ -16,7 +15,7 @@ use Rattle.heavy.specs.Streams.{connections_of}
 use Rattle.listed_lines.specs.declared.line.Request as line-request
 use Rattle.listed_lines.specs.declared.line.Candidate as line-candidate
 use Rattle.listed_lines.specs.Given.{request_in, candidate_in}
-use Rattle.listed_form.specs.Given.{Body, requests_only}
+use Rattle.listed_form.specs.Given.{key_in, Body, requests_only}
 use Rattle.listed_requests.specs.declared.candidates.Gathered.{Gathered}
 use Rattle.listed_requests.specs.declared.each.Pass.{Pass}
 use Rattle.listed_requests.specs.Parts.{line_fits, one_fits, local_fits, pass_fits}
@@ -61,9 +60,6 @@ pub record NextRequest (b : List ℕ) (at : ℕ) (ws ps : List ℕ) (r : Maybe l
   pub missing : IsNone r → at < length b → (t : Table) → Body b at (requests_only t) → ⊥
 
 -- ---- the candidates of a request
-
-abbrev pub key_with : Kind → Quad → Key
-key_with k q = record { kind = k; hash = quad_number q }
 
 abbrev pub kind_is : Kind → Option Kind → Bool
 kind_is k none = false
@@ -124,9 +120,9 @@ pub record Judged (b : List ℕ) (from : ℕ) (ps : List ℕ) (r : line-request.
 -- ---- one request after the other
 
 -- the least place that the next key may have
-abbrev pub lowest : Maybe (Kind × Quad) → ℕ
+abbrev pub lowest : Maybe RowKey → ℕ
 lowest None = 0
-lowest (Some k) = suc (place (key_with k.0 k.1))
+lowest (Some k) = suc (place (key_in k))
 
 abbrev pub lowest_of : Pass → ℕ
 lowest_of p = lowest p.last

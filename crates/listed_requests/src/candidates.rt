@@ -1,17 +1,26 @@
 // The candidates of a request: their connections, and whether each item gives the request's key.
-//
-// The connections go into any slice that holds eight or more (`most_gathered`): an array of eight would ask callers for exactly so many.
 ghost use Rattle.std.specs.Prelude.{◌≡◌, ◌≤◌, eqb, length};
 ghost use Rattle.ident.specs.Number.{kind_of};
 ghost use Rattle.regions.specs.Rows.{quad_number};
 ghost use Rattle.machine.specs.SoundTest.{fits};
 ghost use Rattle.listed_lines.specs.Given.{candidate_in};
-ghost use Rattle.listed_requests.specs.Given.{key_with, kind_is, most_gathered, Gathers};
+ghost use Rattle.listed_form.specs.Given.{key_in};
+ghost use Rattle.listed_requests.specs.Given.{kind_is, most_gathered, Gathers};
 
 use crate::forms::next_candidate;
 use crate::lawful::is_wtxid;
 use listed_lines::cursor::{Lines, Lists};
 use listed_lines::line::Candidate;
+use machine::limits::MAX_ALTERNATES;
+
+// What a pass over requests is lent: bytes for the lists of a line, and room for the connections of a hash's candidates. (A slice, that may be longer: an array of
+// eight would ask for exactly so many.)
+#[derive(Drop)]
+pub struct Room<'a> {
+    pub lists: Lists<'a>,
+    pub conns: &'a mut [u64],
+    ghost enough: { most_gathered ≤ length conns.now },
+}
 
 // How many connections there are with those of the request; whether each of its candidates fits. (No `Option`: the count is there in either case, and crates/listed_pairs,
 // which passes candidates that do not fit too, needs it.)
@@ -39,36 +48,34 @@ fn gives(item: ident::ItemKind, kind: ident::Kind) -> bool
 }
 
 // "no connection 0", "each item gives its request's key"
-fn fits(c: Candidate, kind: ident::Kind, hash: regions::Quad) -> bool
-    ensures { result ≡ fits (key_with kind hash) (candidate_in c) }
+fn fits(c: Candidate, key: regions::Key) -> bool
+    ensures { result ≡ fits (key_in key) (candidate_in c) }
 {
     if c.connection == 0 {
         return false;
     }
-    gives(c.kind, kind) && same_quad(c.hash, hash)
+    gives(c.kind, key.kind) && same_quad(c.hash, key.hash)
 }
 
 // The candidates that come next, of a request with this key: their connections are put behind n others. None if they are more than eight then.
 pub fn gather(
     lines: &mut Lines,
-    kind: ident::Kind,
-    hash: regions::Quad,
+    key: regions::Key,
     n: usize,
-    conns: &mut [u64],
-    lists: &mut Lists,
+    room: &mut Room,
 ) -> Option<Gathered>
-    requires { (n ≤ most_gathered) × (most_gathered ≤ length conns.old) }
+    requires { n ≤ most_gathered }
     ensures same { lines.new.text ≡ lines.old.text }
-    ensures gathers { Gathers lines.old.text.now lines.old.at (key_with kind hash) n conns.old conns.new result lines.new.at }
+    ensures gathers { Gathers lines.old.text.now lines.old.at (key_in key) n room.old.conns.now room.new.conns.now result lines.new.at }
 {
     let mut count = n;
     let mut fit = true;
-    while let Some(c) = next_candidate(lines, lists) {
-        if 8 <= count {
+    while let Some(c) = next_candidate(lines, &mut room.lists) {
+        if MAX_ALTERNATES <= count {
             return None;
         }
-        conns[count] = c.connection;
-        fit = fit & fits(c, kind, hash);
+        room.conns[count] = c.connection;
+        fit = fit & fits(c, key);
         count += 1;
     }
     Some(Gathered { count, fit })

@@ -2,29 +2,32 @@
 ghost use Rattle.std.specs.Prelude.{◌≡◌, ◌<◌, ◌≤◌, leb, length};
 ghost use Rattle.ident.specs.Number.{place};
 ghost use Rattle.machine.specs.Limits.{max_announcements, max_places};
-ghost use Rattle.listed_requests.specs.Given.{key_with, most_gathered, lowest_of, place_for, Within, Stepped, EachFits};
+ghost use Rattle.listed_form.specs.Given.{key_in};
+ghost use Rattle.listed_requests.specs.Given.{lowest_of, place_for, Within, Stepped, EachFits};
 
+use crate::candidates::Room;
 use crate::forms::next_request;
 use crate::lawful::judge;
 use listed_form::comes_before;
 use listed_lines::cursor::{Lines, Lists};
 use listed_lines::hash_lists::ROOM;
+use machine::limits::MAX_ALTERNATES;
 
 // The key of the last request, if there was one; announcements and places that are held up to it.
 #[derive(Clone, Copy)]
 pub struct Pass {
-    pub last: Option<(ident::Kind, regions::Quad)>,
+    pub last: Option<regions::Key>,
     pub held: u64,
     pub taken: u64,
 }
 
 // Whether a key comes after the last one.
-fn rises(p: Pass, kind: ident::Kind, hash: regions::Quad) -> bool
-    ensures { result ≡ leb (lowest_of p) (place (key_with kind hash)) }
+fn rises(p: Pass, key: regions::Key) -> bool
+    ensures { result ≡ leb (lowest_of p) (place (key_in key)) }
 {
     match p.last {
         None => true,
-        Some((k, h)) => comes_before(k, h, kind, hash),
+        Some(last) => comes_before(last, key),
     }
 }
 
@@ -41,18 +44,17 @@ fn advance(
     p: Pass,
     limit: u64,
     places: u64,
-    conns: &mut [u64],
-    lists: &mut Lists,
+    room: &mut Room,
 ) -> Option<Pass>
-    requires { (lines.old.at < length lines.old.text.now) × Within limit places p × (most_gathered ≤ length conns.old) }
+    requires { (lines.old.at < length lines.old.text.now) × Within limit places p }
     ensures same { lines.new.text ≡ lines.old.text }
     ensures step { Stepped lines.old.text.now lines.old.at limit places p result lines.new.at }
 {
-    let r = next_request(lines, lists)?;
-    if !rises(p, r.kind, r.hash) {
+    let r = next_request(lines, &mut room.lists)?;
+    if !rises(p, r.key) {
         return None;
     }
-    let count = judge(lines, r, conns, lists)?;
+    let count = judge(lines, r, room)?;
     let held = p.held + count as u64;
     if limit < held {
         return None;
@@ -61,7 +63,7 @@ fn advance(
     if places < taken {
         return None;
     }
-    let last = Some((r.kind, r.hash));
+    let last = Some(r.key);
     Some(Pass { last, held, taken })
 }
 
@@ -72,18 +74,21 @@ pub fn each_fits(mut lines: Lines, limit: u64, places: u64) -> bool
 {
     let mut wtxids = [0; ROOM];
     let mut parents = [0; ROOM];
-    let mut lists = Lists {
-        wtxids: &mut wtxids,
-        parents: &mut parents,
+    let mut conns = [0; MAX_ALTERNATES];
+    let mut room = Room {
+        lists: Lists {
+            wtxids: &mut wtxids,
+            parents: &mut parents,
+        },
+        conns: &mut conns,
     };
-    let mut conns = [0u64; 8];
     let mut pass = Pass {
         last: None,
         held: 0,
         taken: 0,
     };
     while !lines.is_empty() {
-        let Some(next) = advance(&mut lines, pass, limit, places, &mut conns, &mut lists) else {
+        let Some(next) = advance(&mut lines, pass, limit, places, &mut room) else {
             return false;
         };
         pass = next;

@@ -4,13 +4,14 @@ ghost use Rattle.ident.specs.declared.Kind.TheVariants.{Wtxid};
 ghost use Rattle.machine.specs.Claim.{same_kind};
 ghost use Rattle.machine.specs.SoundTest.{mark_fits};
 ghost use Rattle.listed_lines.specs.Given.{list_room, owner_of};
-ghost use Rattle.listed_requests.specs.Given.{most_gathered, packs, owner_among, LineFits, Judged};
+ghost use Rattle.listed_requests.specs.Given.{packs, owner_among, LineFits, Judged};
 
-use crate::candidates::gather;
+use crate::candidates::{Room, gather};
 use crate::distinct::{all_distinct, hashes_distinct, stands};
-use listed_lines::cursor::{Lines, Lists};
+use listed_lines::cursor::Lines;
 use listed_lines::line::Request;
 use listed_lines::parts::Owner;
+use machine::limits::MAX_PARENTS;
 
 pub fn is_wtxid(kind: ident::Kind) -> bool
     ensures { result ≡ same_kind kind Wtxid }
@@ -52,31 +53,30 @@ fn line_fits(r: Request, parents: &[u8]) -> bool
     ensures { LineFits parents.now r result }
 {
     let n = r.parents;
-    if 100 < n {
+    if MAX_PARENTS < n {
         return false;
     }
     if !hashes_distinct(parents, n) {
         return false;
     }
-    if !mark_fits(r.kind, r.mark) {
+    if !mark_fits(r.key.kind, r.mark) {
         return false;
     }
-    packs(r.kind, r.owner.is_some(), r.info, r.packed.is_some(), n)
+    packs(r.key.kind, r.owner.is_some(), r.info, r.packed.is_some(), n)
 }
 
 // A request, whose candidates come next: how many it has, if it is lawful.
-pub fn judge(lines: &mut Lines, r: Request, conns: &mut [u64], lists: &mut Lists) -> Option<usize>
-    requires { most_gathered ≤ length conns.old }
+pub fn judge(lines: &mut Lines, r: Request, room: &mut Room) -> Option<usize>
     ensures same { lines.new.text ≡ lines.old.text }
-    ensures judged { Judged lines.old.text.now lines.old.at lists.old.parents.now r result lines.new.at }
+    ensures judged { Judged lines.old.text.now lines.old.at room.old.lists.parents.now r result lines.new.at }
 {
-    if !line_fits(r, lists.parents) {
+    if !line_fits(r, room.lists.parents) {
         return None;
     }
-    let g = gather(lines, r.kind, r.hash, 0, conns, lists)?;
+    let g = gather(lines, r.key, 0, room)?;
     let count = g.count;
-    let once = all_distinct(&conns[..count]);
-    let owner = owner_stands(r.owner, &conns[..count]);
+    let once = all_distinct(&room.conns[..count]);
+    let owner = owner_stands(r.owner, &room.conns[..count]);
     let fit = g.fit & once & owner & (0 < count);
     if !fit {
         return None;

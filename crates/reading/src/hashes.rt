@@ -1,9 +1,8 @@
 // Lists of hashes, read into bytes that are lent: 32 bytes each.
 ghost use Rattle.std.specs.Prelude.{ℕ, ◌≡◌, ◌≤◌, length};
-ghost use Rattle.ident.specs.Words.{hash_bytes, hash_num};
+ghost use Rattle.ident.specs.Words.{hash_bytes};
 ghost use Rattle.words.specs.Words.{number};
 ghost use Rattle.machine.specs.Fields.{hash_of, taking};
-ghost use Rattle.regions.specs.Rows.{quad_number};
 ghost use Rattle.reading.specs.Given.{longest_line, stored_bytes, HashesGiven};
 
 use crate::fields::hash_at;
@@ -21,16 +20,8 @@ pub fn hash_buffer() -> [u8; STORED]
     [0u8; STORED]
 }
 
-// A hash of plain words as the tracker takes it.
-pub fn hash_of(q: regions::Quad) -> ident::Hash
-    ensures { hash_num result ≡ quad_number q }
-{
-    let words = [q.w0, q.w1, q.w2, q.w3];
-    ident::Hash { words }
-}
-
 // A hash of a list.
-struct ListedHash;
+pub struct ListedHash;
 
 impl Element for ListedHash {
     ghost Value = { ℕ };
@@ -43,7 +34,7 @@ impl Element for ListedHash {
 
     fn take(line: &[u8], e: usize, i: usize, hashes: &mut [u8]) -> Option<usize> {
         let hash = hash_at(line, e)?;
-        ident::put_hash(hashes, i * HASH_BYTES, hash_of(hash.value));
+        ident::put_hash(hashes, i * HASH_BYTES, ident::Hash::from(hash.value));
         Some(hash.end)
     }
 }

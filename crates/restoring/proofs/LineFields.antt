@@ -62,13 +62,13 @@ witness_byte WitnessTransaction = refl
 witness_byte WTx = refl
 witness_byte (Other n) = refl
 
-pub row_made : (r : line-request.Request) (c : line-candidate.Candidate) → QuadFits r.hash → {k w p o m d : ℕ} → k ≡ kind_number r.kind → w ≡ witness_bit c.kind → p ≡ one c.preferred
+pub row_made : (r : line-request.Request) (c : line-candidate.Candidate) → QuadFits r.key.hash → {k w p o m d : ℕ} → k ≡ kind_number r.key.kind → w ≡ witness_bit c.kind → p ≡ one c.preferred
     → o ≡ one (owner_is c.connection (owner_of r.owner)) → m ≡ one r.mark → d ≡ deadline_for c.connection (owner_of r.owner)
-    → ◌≡◌ {A = Row} (record { hash = r.hash; conn = c.connection; ready = c.ready; prio = c.priority; deadline = d; bits = k + 2 * w + 4 * p + 8 * o + 16 * m })
+    → ◌≡◌ {A = Row} (record { hash = r.key.hash; conn = c.connection; ready = c.ready; prio = c.priority; deadline = d; bits = k + 2 * w + 4 * p + 8 * o + 16 * m })
     (row_of (request_in [] [] r) (candidate_in c))
 unfolding row_of
 row_made r c f ek ew ep eo em ed =
-    let h = sym (quad-number r.hash f) in
+    let h = sym (quad-number r.key.hash f) in
     (λ i. record { hash = h i; conn = c.connection; ready = c.ready; prio = c.priority; deadline = ed i; bits = ek i + 2 * ew i + 4 * ep i + 8 * eo i + 16 * em i })
 
 -- ---- the place of a request
@@ -76,7 +76,7 @@ row_made r c f ek ew ep eo em ed =
 -- what its line says of it
 abbrev pub place_of : List ℕ → List ℕ → line-request.Request → Place
 place_of ws ps q = record {
-  hash = quad_number q.hash;
+  hash = quad_number q.key.hash;
   combined = combined_for (package_of ws q.packed);
   stage = stage_for (package_of ws q.packed);
   wtxids = wtxids_for (package_of ws q.packed);
@@ -141,15 +141,15 @@ pub placed : {b b' : List ℕ} (ws ps : List ℕ) (q : line-request.Request) (z 
     (g : (q.info || is_some q.packed) ≡ true) → list_room ≤ length ws → list_room ≤ length ps
     → {x v : ℕ} (n : ℕ) → ((us : List ℕ) → x ≡ combined_for (package_of us q.packed)) → ((us : List ℕ) → v ≡ stage_for (package_of us q.packed))
     → ((us : List ℕ) → hashes_of n us ≡ wtxids_for (package_of us q.packed))
-    → Appends b b' (record { hash = quad_number q.hash; combined = x; stage = v; wtxids = hashes_in (take (n * 32) ws); parents = hashes_in (take (q.parents * 32) ps) })
+    → Appends b b' (record { hash = quad_number q.key.hash; combined = x; stage = v; wtxids = hashes_in (take (n * 32) ws); parents = hashes_in (take (q.parents * 32) ps) })
     → Turns b b' (λ f. with_places (f.places ++ places_for (request_in ws ps q)) f)
 placed {b} {b'} ws ps q z g lw lp {x} {v} n ec ev en a f h =
     let mw = few_wtxids ws ps q z g (en ws) in
     let mp = few_parents ws ps q z g in
     let hw = front_hashes n ws (omega arith) ∙ en ws in
     let hp = front_hashes q.parents ps (omega arith) in
-    let same : ◌≡◌ {A = Place} (record { hash = quad_number q.hash; combined = x; stage = v; wtxids = hashes_in (take (n * 32) ws); parents = hashes_in (take (q.parents * 32) ps) })
-    (place_of ws ps q) = (λ i. record { hash = quad_number q.hash; combined = ec ws i; stage = ev ws i; wtxids = hw i; parents = hp i }) in
+    let same : ◌≡◌ {A = Place} (record { hash = quad_number q.key.hash; combined = x; stage = v; wtxids = hashes_in (take (n * 32) ws); parents = hashes_in (take (q.parents * 32) ps) })
+    (place_of ws ps q) = (λ i. record { hash = quad_number q.key.hash; combined = ec ws i; stage = ev ws i; wtxids = hw i; parents = hp i }) in
     subst (λ (x : List Place). Shows b' (with_places (f.places ++ x) f)) (ap (λ (p : Place). p ∷ []) same ∙ sym (place_is ws ps q g)) (a f h)
 
 -- no place

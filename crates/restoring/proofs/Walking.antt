@@ -21,8 +21,7 @@ use Rattle.store.proofs.Counts.{held-rows, places-rows}
 use Rattle.listed_lines.specs.declared.line.Request as line-request
 use Rattle.listed_lines.specs.declared.line.Line as line-line
 use Rattle.listed_lines.specs.declared.line.Line.TheVariants.{Not as NoLine, Head as IsHead, Request as IsRequest, Candidate as IsCandidate}
-use Rattle.listed_lines.specs.declared.line.LineAt.{LineAt}
-use Rattle.listed_lines.specs.Given.{request_in, candidate_in, line_in, LineRead}
+use Rattle.listed_lines.specs.Given.{LineAt, request_in, candidate_in, line_in, LineRead}
 use Rattle.listed_form.specs.Given.{Body, requests_only}
 use Rattle.listed_form.proofs.Stepping.{no-bad-line, no-head-line, after-candidate, after-request, body_end}
 use Rattle.restoring.specs.Given.{request_after, row_under, rows_more, places_more, LineRoom, TakesLine, bare, untallied, Headed}
@@ -110,7 +109,7 @@ unfolding each
 first_places r t = refl
 
 module _ {text ws ps : List ℕ} {at : ℕ} {l : LineAt} (p : LineRead text at ws ps l) {q : Rest} (y : Body text at q) (lawful : All Lawful q.table) (r : Maybe line-request.Request) where
-  by_line : (m : line-line.Line) → l.line ≡ m → Step text ws ps l.end r m q
+  by_line : (m : line-line.Line) → l.value ≡ m → Step text ws ps l.end r m q
   by_line NoLine e = no-bad-line p y (ap (line_in ws ps) e)
   by_line (IsHead h) e = no-head-line p y (ap (line_in ws ps) e)
   by_line (IsRequest x) e =
@@ -138,19 +137,19 @@ module _ {text ws ps : List ℕ} {at : ℕ} {l : LineAt} (p : LineRead text at w
         short = tt;
       }
 
-  step : Step text ws ps l.end r l.line q
-  step = by_line l.line refl
+  step : Step text ws ps l.end r l.value q
+  step = by_line l.value refl
 
 -- ---- room for it, and the store with it
 
 module _ {text b ws ps : List ℕ} {at : ℕ} {r : Maybe line-request.Request} {st : State} (s : Sound st) (u : Underway text b at r st) {l : LineAt} (p : LineRead text at ws ps l) where
-  abbrev d : Step text ws ps l.end r l.line u.rest
+  abbrev d : Step text ws ps l.end r l.value u.rest
   d = step p u.body u.lawful r
 
-  few_rows : length u.rows + length (rows_more r l.line) ≤ st.limit
+  few_rows : length u.rows + length (rows_more r l.value) ≤ st.limit
   few_rows =
-      let m = rows_more r l.line in
-      let n = rows_left (request_after r l.line) d.rest in
+      let m = rows_more r l.value in
+      let n = rows_left (request_after r l.value) d.rest in
       omega (
         arith,
         ap length u.all_rows,
@@ -161,9 +160,9 @@ module _ {text b ws ps : List ℕ} {at : ℕ} {r : Maybe line-request.Request} {
         s.bounded.fits,
       )
 
-  few_places : length u.places + length (places_more ws ps l.line) ≤ st.places
+  few_places : length u.places + length (places_more ws ps l.value) ≤ st.places
   few_places =
-      let m = places_more ws ps l.line in
+      let m = places_more ws ps l.value in
       let n = places_of d.rest.table in
       omega (
         arith,
@@ -175,7 +174,7 @@ module _ {text b ws ps : List ℕ} {at : ℕ} {r : Maybe line-request.Request} {
         s.bounded.room,
       )
 
-  pub line-room : LineRoom b ws ps r l.line
+  pub line-room : LineRoom b ws ps r l.value
   line-room =
       let z = sizes u.shows in
       record {
@@ -191,10 +190,10 @@ module _ {text b ws ps : List ℕ} {at : ℕ} {r : Maybe line-request.Request} {
         short = d.short;
       }
 
-  pub line_taken : {b' : List ℕ} {r' : Maybe line-request.Request} → TakesLine b b' ws ps r l.line r' → Underway text b' l.end r' st
+  pub line_taken : {b' : List ℕ} {r' : Maybe line-request.Request} → TakesLine b b' ws ps r l.value r' → Underway text b' l.end r' st
   line_taken {b'} {r'} t =
-      let m = rows_more r l.line in
-      let n = places_more ws ps l.line in
+      let m = rows_more r l.value in
+      let n = places_more ws ps l.value in
       record {
         rest = d.rest;
         body = d.body;
@@ -202,7 +201,7 @@ module _ {text b ws ps : List ℕ} {at : ℕ} {r : Maybe line-request.Request} {
         rows = u.rows ++ m;
         places = u.places ++ n;
         shows = t.turns _ u.shows;
-        all_rows = ap (λ (x : Maybe line-request.Request). (u.rows ++ m) ++ rows_left x d.rest) t.after ∙ append_assoc u.rows m (rows_left (request_after r l.line) d.rest)
+        all_rows = ap (λ (x : Maybe line-request.Request). (u.rows ++ m) ++ rows_left x d.rest) t.after ∙ append_assoc u.rows m (rows_left (request_after r l.value) d.rest)
             ∙ ap (λ (x : List Row). u.rows ++ x) (sym d.rows) ∙ u.all_rows;
         all_places = append_assoc u.places n (places_of d.rest.table) ∙ ap (λ (x : List Place). u.places ++ x) (sym d.places) ∙ u.all_places;
       }
@@ -218,10 +217,10 @@ pub walked_none : {text b : List ℕ} {from : ℕ} (r : Maybe line-request.Reque
 walked_none r l = record { inside = l; long = refl; under = λ st s y h. begun r st s y h }
 
 module _ {text b₀ b : List ℕ} {from at : ℕ} {r : Maybe line-request.Request} (w : Walked text b₀ b from at r) where
-  pub walked-room : Headed text from b₀ → {ws ps : List ℕ} {l : LineAt} → LineRead text at ws ps l → LineRoom b ws ps r l.line
+  pub walked-room : Headed text from b₀ → {ws ps : List ℕ} {l : LineAt} → LineRead text at ws ps l → LineRoom b ws ps r l.value
   walked-room h p = line-room h.sound (w.under h.state h.sound h.body h.shows) p
 
-  pub walked_on : {b' ws ps : List ℕ} {l : LineAt} {r' : Maybe line-request.Request} → LineRead text at ws ps l → TakesLine b b' ws ps r l.line r' → length b' ≡ length b
+  pub walked_on : {b' ws ps : List ℕ} {l : LineAt} {r' : Maybe line-request.Request} → LineRead text at ws ps l → TakesLine b b' ws ps r l.value r' → length b' ≡ length b
       → Walked text b₀ b' from l.end r'
   walked_on p t n = record { inside = p.inside; long = n ∙ w.long; under = λ st s y h. line_taken s (w.under st s y h) p t }
 

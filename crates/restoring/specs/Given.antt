@@ -8,7 +8,6 @@ use Rattle.machine.specs.State.{Candidate, Package, Request, State, on_table}
 use Rattle.machine.specs.Sound.{Sound}
 use Rattle.machine.specs.Table.{one}
 use Rattle.machine.specs.Typed.{Each}
-use Rattle.machine.specs.Listing.{read_listing}
 use Rattle.store.specs.Flat.{Flat, head_of, flat_of, row_of, places_for}
 use Rattle.store.specs.Image.{Shows, Writes, need_of}
 use Rattle.store.specs.Shown.{limit_in, rows_in, places_in, held_places_in, Shown, with_conns, with_places, Turns}
@@ -123,10 +122,3 @@ pub record Readable (text : List ℕ) (h : line-head.Head) (e n : ℕ) : Type 0 
 -- the bytes b write the state that they list
 abbrev pub Restored : List ℕ → line-head.Head → ℕ → List ℕ → Type 0
 Restored text h e b = (st : State) → Sound st → st ≡ on_table st.table (head_state h) → Body text e (requests_only st.table) → Writes b st
-
--- the text is the listing of a sound state, which needs n bytes
-pub record SoundListing (text : List ℕ) (n : ℕ) : Type 0 where
-  pub state : State
-  pub read : read_listing text ≡ some state
-  pub sound : Sound state
-  pub needs : n ≡ need_of state

@@ -27,21 +27,17 @@ fn deadline_for(o: Option<Owner>, n: u64) -> u64
 fn row_of(r: Request, c: Candidate) -> regions::Row
     ensures { result ≡ row_of (request_in [] [] r) (candidate_in c) }
 {
-    let n = c.connection;
-    let o = r.owner;
-    let hash = r.hash;
-    let kind = u64::from(r.kind);
+    let kind = u64::from(r.key.kind);
     let witness = u64::from(c.kind == ident::ItemKind::WitnessTransaction);
     let preferred = u64::from(c.preferred);
-    let owns = u64::from(is_owner(o, n));
+    let owns = u64::from(is_owner(r.owner, c.connection));
     let mark = u64::from(r.mark);
-    let deadline = deadline_for(o, n);
     regions::Row {
-        hash,
-        conn: n,
+        hash: r.key.hash,
+        conn: c.connection,
         ready: c.ready,
         prio: c.priority,
-        deadline,
+        deadline: deadline_for(r.owner, c.connection),
         bits: kind + 2 * witness + 4 * preferred + 8 * owns + 16 * mark,
     }
 }

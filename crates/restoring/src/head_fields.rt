@@ -1,23 +1,12 @@
 // The header of a listing's first line: L, Q, next poll and the cursors.
 ghost use Rattle.std.specs.Prelude.{◌≡◌, ◌≤◌, length};
-ghost use Rattle.ident.specs.Words.{maybe_key_num};
-ghost use Rattle.lines.specs.Values.{key_in};
 ghost use Rattle.machine.specs.Limits.{need, max_announcements, max_places};
 ghost use Rattle.store.specs.Image.{Shows};
 ghost use Rattle.listed_lines.specs.Given.{head_state};
 ghost use Rattle.restoring.specs.Given.{bare};
 
 use cursors::Cursors;
-use lines::read::Named;
 use listed_lines::line::Head;
-
-fn key_of(m: Option<Named<ident::Kind>>) -> Option<ident::Key>
-    ensures { maybe_key_num result ≡ key_in m }
-{
-    let Named { kind, hash } = m?;
-    let hash = ident::Hash::from(hash);
-    Some(ident::Key { kind, hash })
-}
 
 // Makes any bytes of the need those of a tracker without requests, with the sizes, next poll and cursors of the line.
 pub fn put_head(s: &mut [u8], h: Head)
@@ -27,8 +16,8 @@ pub fn put_head(s: &mut [u8], h: Head)
     store::head::fill(s, h.limit as usize, h.places as usize);
     let c = Cursors {
         next: h.poll,
-        known: key_of(h.known),
-        ready: key_of(h.ready),
+        known: h.known.map(ident::Key::from),
+        ready: h.ready.map(ident::Key::from),
     };
     cursors::save(s, c);
 }

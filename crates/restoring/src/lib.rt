@@ -4,14 +4,12 @@
 // moves. The connections are counted at the end. As in `store`, bytes are spoken of as lists of records: `Turns`, `Shows`.
 #![tactic(auto)]
 
-ghost use Rattle.std.specs.Prelude.{◌≡◌, length};
-ghost use Rattle.std.proofs.Math.Option.{some};
+ghost use Rattle.std.specs.Prelude.{length};
 ghost use Rattle.machine.specs.State.{State};
 ghost use Rattle.machine.specs.Sound.{Sound};
-ghost use Rattle.machine.specs.Listing.{read_listing};
-ghost use Rattle.store.specs.Image.{Shows, Writes};
+ghost use Rattle.store.specs.Image.{Shows};
 ghost use Rattle.listed_form.specs.Given.{Body, requests_only};
-ghost use Rattle.restoring.specs.Given.{LineRoom, TakesLine, bare, untallied, Headed, Readable, Restored, SoundListing};
+ghost use Rattle.restoring.specs.Given.{LineRoom, TakesLine, bare, untallied, Headed, Readable, Restored};
 
 use listed_lines::cursor::{Lines, Lists};
 use listed_lines::hash_lists::ROOM;
@@ -67,24 +65,4 @@ pub fn write_from(h: Head, lines: Lines, s: &mut [u8])
     head_fields::put_head(s, h);
     put_lines(lines, s);
     tallying::tally_rows(s);
-}
-
-// The state that the text lists, into any bytes of its need: for a caller that has the text alone. (The public call has read the first line by then: it goes by `write_from`.)
-pub fn write(text: &[u8], s: &mut [u8])
-    requires { SoundListing text.now (length s.old) }
-    ensures { (st : State) → read_listing text.now ≡ some st → Writes s.new st }
-{
-    let mut wtxids = [0; ROOM];
-    let mut parents = [0; ROOM];
-    let mut lists = Lists {
-        wtxids: &mut wtxids,
-        parents: &mut parents,
-    };
-    let mut lines = Lines { text, at: 0 };
-    let Some(line) = lines.next(&mut lists) else {
-        return;
-    };
-    if let Line::Head(h) = line {
-        write_from(h, lines, s);
-    }
 }

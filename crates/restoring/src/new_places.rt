@@ -67,24 +67,19 @@ fn stage_of(p: Option<Package>) -> Stage
 fn combined_of(p: Option<Package>) -> regions::Quad
     ensures { (ws : List ℕ) → quad_number result ≡ combined_for (package_of ws p) }
 {
-    match p {
-        None => regions::Quad {
-            w0: 0,
-            w1: 0,
-            w2: 0,
-            w3: 0,
-        },
-        Some(p) => p.combined,
-    }
+    let zero = regions::Quad {
+        w0: 0,
+        w1: 0,
+        w2: 0,
+        w3: 0,
+    };
+    p.map_or(zero, |p| p.combined)
 }
 
 fn wtxid_count(p: Option<Package>) -> usize
     ensures { (ws : List ℕ) → hashes_of result ws ≡ wtxids_for (package_of ws p) }
 {
-    match p {
-        None => 0,
-        Some(p) => p.wtxids,
-    }
+    p.map_or(0, |p| p.wtxids)
 }
 
 // The place of a request's line, if it has one, behind the others.
@@ -94,11 +89,15 @@ pub fn add_place(s: &mut [u8], r: Request, wtxids: &[u8], parents: &[u8])
 {
     let p = r.packed;
     if r.info | p.is_some() {
-        let hash = r.hash;
-        let combined = combined_of(p);
-        let stage = stage_of(p);
         let n = wtxid_count(p) * HASH_BYTES;
         let m = r.parents * HASH_BYTES;
-        append_place(s, hash, combined, stage, &wtxids[..n], &parents[..m]);
+        append_place(
+            s,
+            r.key.hash,
+            combined_of(p),
+            stage_of(p),
+            &wtxids[..n],
+            &parents[..m],
+        );
     }
 }

@@ -1,16 +1,15 @@
--- `listed_form::comes_before` meets its contract.
-use native.Mathlib.Omega.{arith}
-use Rattle.regions.specs.Rows.{quad_number}
-use Rattle.reading.proofs.Stored.{quad_below}
-use Rattle.listed_form.proofs.Meeting.{txid_first, wtxid_last}
+-- `listed_form::comes_before` meets its contract: a key's number is its place.
+use Prim.Native.Nat.{ℕ}
+use mathlib.Core.Path.{ap, ◌∙◌}
+use lib.Dec.{ltb}
+use Rattle.ident.specs.Number.{place}
+use Rattle.regions.specs.Rows.{key_number}
+use Rattle.regions.proofs.Hashes.{key_place}
+use Rattle.listed_form.specs.Given.{key_in}
 use Rattle.listed_form.proofs.comes_before.Goals as goal
 
-pub returns-in-Wtxid-l : goal.returns-in-Wtxid-l
-returns-in-Wtxid-l c =
-    let h = c.args.h in
-    txid_first (quad_number h) _ (quad_below h (omega arith) (omega arith) (omega arith) (omega arith)) c.in-Txid.is c.in-Wtxid-l.is
-
-pub returns-in-Txid-l-2 : goal.returns-in-Txid-l-2
-returns-in-Txid-l-2 c =
-    let g = c.args.g in
-    wtxid_last _ (quad_number g) (quad_below g (omega arith) (omega arith) (omega arith) (omega arith)) c.in-Wtxid.is c.in-Txid-l-2.is
+pub returns : goal.returns
+returns c =
+    let a = c.args.a in
+    let b = c.args.b in
+    c.key_less.ensures ∙ ap (λ (x : ℕ). ltb x (key_number b)) (key_place a) ∙ ap (λ (x : ℕ). ltb (place (key_in a)) x) (key_place b)

@@ -12,4 +12,4 @@ loop-line-preserved c =
     (e ∙ c.loop-line.invariant.0, rw e (scan_on c.loop-line.invariant.1 c.in-Some.ensures.line c.in-Some-meets.ensures))
 
 pub returns : goal.returns
-returns c = rw (← c.loop-line.invariant.0) (scan_end c.loop-line.met c.loop-line.invariant.1 (c.in_default.ensures.none refl).0)
+returns c = rw (← c.loop-line.invariant.0) (scan_end c.loop-line.last c.loop-line.invariant.1 (c.in_default.ensures.none refl).0)

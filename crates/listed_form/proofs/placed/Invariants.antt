@@ -7,7 +7,7 @@ use Rattle.listed_form.proofs.Forms.{Scanned}
 use Rattle.listed_form.proofs.placed.Given as goal
 
 abbrev pub invariant-loop-line : goal.invariant-loop-line
-invariant-loop-line l = (l.lines.text ≡ l.initial.lines.text) × Scanned l.lines.text.now l.initial.lines.at (met_of l.met) l.lines.at
+invariant-loop-line l = (l.lines.text ≡ l.initial.lines.text) × Scanned l.lines.text.now l.initial.lines.at (met_of l.last) l.lines.at
 
 abbrev pub decreases-loop-line : goal.decreases-loop-line
 decreases-loop-line l = length l.lines.text.now - l.lines.at

@@ -7,9 +7,9 @@ returns-in_default-clause-together c = first_many c.in_default.ensures.gathers
 
 pub returns-in_default-gather-clause-together : goal.returns-in_default-gather-clause-together
 returns-in_default-gather-clause-together c =
-    both_many c.in-Some.ensures.gathers (rw c.requires.0 at c.in_default-gather.ensures.gathers)
+    both_many c.in-Some.ensures.gathers (rw c.requires at c.in_default-gather.ensures.gathers)
 
 pub returns-clause-together : goal.returns-clause-together
 returns-clause-together c =
     rw (c.is_some.ensures, c.is_some-2.ensures)
-    (both_few c.in-Some.ensures.gathers (rw c.requires.0 at c.in-Some-gather.ensures.gathers) c.all_distinct-once.ensures)
+    (both_few c.in-Some.ensures.gathers (rw c.requires at c.in-Some-gather.ensures.gathers) c.all_distinct-once.ensures)

@@ -15,7 +15,7 @@ returns-in-SolicitPackageInfo c =
     let v = c.args.v in
     let hs = hashes_in c.args.hashes.now in
     hashes-did (values_of v) hs c.in-SolicitPackageInfo.is
-    (ap (λ (h : ℕ). SolicitPackageInfo v.connection h hs v.clock) c.hash_of.ensures)
+    (ap (λ (h : ℕ). SolicitPackageInfo v.connection h hs v.clock) c.from.ensures)
     (carried _ c.solicit_package_info.ensures refl (c.number.ensures.text _))
 
 pub returns-in-ClaimPackage : goal.returns-in-ClaimPackage
@@ -23,9 +23,9 @@ returns-in-ClaimPackage c =
     let v = c.args.v in
     let hs = hashes_in c.args.hashes.now in
     hashes-did (values_of v) hs c.in-ClaimPackage.is
-    (ap (λ (h : ℕ). ClaimPackage v.connection h (hash_num c.hash_of-combined.result) hs v.clock)
-    c.hash_of.ensures
-    ∙ ap (λ (h : ℕ). ClaimPackage v.connection (quad_number v.hash) h hs v.clock) c.hash_of-combined.ensures)
+    (ap (λ (h : ℕ). ClaimPackage v.connection h (hash_num c.from-combined.result) hs v.clock)
+    c.from.ensures
+    ∙ ap (λ (h : ℕ). ClaimPackage v.connection (quad_number v.hash) h hs v.clock) c.from-combined.ensures)
     (carried _ c.claim_package.ensures refl (c.number-in-ClaimPackage.ensures.text _))
 
 pub returns-in-BeginPackageResolution : goal.returns-in-BeginPackageResolution
@@ -33,10 +33,10 @@ returns-in-BeginPackageResolution c =
     let v = c.args.v in
     let hs = hashes_in c.args.hashes.now in
     hashes-did (values_of v) hs c.in-BeginPackageResolution.is
-    (ap (λ (h : ℕ). BeginPackageResolution v.connection h (hash_num c.hash_of-combined.result) hs v.clock)
-    c.hash_of.ensures
+    (ap (λ (h : ℕ). BeginPackageResolution v.connection h (hash_num c.from-combined.result) hs v.clock)
+    c.from.ensures
     ∙ ap (λ (h : ℕ). BeginPackageResolution v.connection (quad_number v.hash) h hs v.clock)
-    c.hash_of-combined.ensures)
+    c.from-combined.ensures)
     (carried _ c.begin_package_resolution.ensures refl (c.number-in-BeginPackageResolution.ensures.text _))
 
 pub returns-in-AnnounceParents : goal.returns-in-AnnounceParents

@@ -31,7 +31,7 @@ returns-in-ReleasePackage c = listing-did (values_of c.args.v)
     (ap (λ (h : ℕ). ReleasePackage c.args.v.connection h
     c.args.v.clock
     c.args.answer.now)
-    c.hash_of.ensures ∙
+    c.from.ensures ∙
     ap (ReleasePackage c.args.v.connection
     (values_of c.args.v).hash
     c.args.v.clock)

@@ -4,4 +4,4 @@ use Prim.Native.Nat.{ℕ}
 use Rattle.calling.proofs.numbers.key_of.Goals as goal
 
 pub returns : goal.returns
-returns c = ap (λ (h : ℕ). record { kind = c.args.v.kind; hash = h }) c.hash_of-hash.ensures
+returns c = ap (λ (h : ℕ). record { kind = c.args.v.kind; hash = h }) c.from-hash.ensures

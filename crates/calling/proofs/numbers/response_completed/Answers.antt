@@ -11,7 +11,7 @@ pub returns : goal.returns
 returns c =
     let v = c.args.v in
     does_is
-    (ap (λ (h : ℕ). TransactionResponseCompleted v.connection h (hash_num c.hash_of-2.result) v.clock)
-    c.hash_of.ensures
-    ∙ ap (λ (h : ℕ). TransactionResponseCompleted v.connection (quad_number v.hash) h v.clock) c.hash_of-2.ensures)
+    (ap (λ (h : ℕ). TransactionResponseCompleted v.connection h (hash_num c.from-2.result) v.clock)
+    c.from.ensures
+    ∙ ap (λ (h : ℕ). TransactionResponseCompleted v.connection (quad_number v.hash) h v.clock) c.from-2.ensures)
     c.transaction_response_completed.ensures

@@ -11,4 +11,4 @@ returns c =
     let u = quad_below q (omega arith) (omega arith) (omega arith) (omega arith) in
     key-put c.args.keys.now c.args.i
     (named_key c.args.key) c.requires u
-    (rw c.hash_of-hash.ensures at c.put_key.ensures)
+    (rw c.from.ensures at c.put_key.ensures)

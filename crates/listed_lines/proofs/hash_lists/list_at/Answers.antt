@@ -2,8 +2,7 @@
 use mathlib.Core.Path.{refl, ap}
 use Rattle.machine.specs.Fields.{number_of}
 use Rattle.reading.specs.Given.{number_at}
-use Rattle.listed_lines.specs.Given.{hashes_at}
-use Rattle.listed_lines.proofs.Anywhere.{number_took}
+use Rattle.listed_lines.proofs.Anywhere.{number_took, hashes_at, hashes_took}
 use Rattle.listed_lines.proofs.Lists.{no_length, too_short, too_long, no-hashes, hashes-are}
 use Rattle.listed_lines.proofs.hash_lists.list_at.Goals as goal
 
@@ -19,10 +18,10 @@ returns-then-count-gt100 c = too_long _ (number_took number_of c.number_at.ensur
 pub returns-in_err-end : goal.returns-in_err-end
 returns-in_err-end c =
     rw c.from_residual-in_err-end.ensures
-    (no-hashes _ (number_took number_of c.number_at.ensures) (ap number_at c.in_ok-count.was) c.if-count-least.false c.if-count-gt100.false refl c.hashes_at.ensures
-    (ap (hashes_at _ _) c.in_err-end.was))
+    (no-hashes _ (number_took number_of c.number_at.ensures) (ap number_at c.in_ok-count.was) c.if-count-least.false c.if-count-gt100.false refl (hashes_took c.read_all.ensures)
+    (ap (hashes_at _) c.in_err-end.was))
 
 pub returns : goal.returns
 returns c =
-    hashes-are _ (number_took number_of c.number_at.ensures) (ap number_at c.in_ok-count.was) c.if-count-least.false c.if-count-gt100.false refl c.hashes_at.ensures
-    (ap (hashes_at _ _) c.in_ok-end.was)
+    hashes-are _ (number_took number_of c.number_at.ensures) (ap number_at c.in_ok-count.was) c.if-count-least.false c.if-count-gt100.false refl (hashes_took c.read_all.ensures)
+    (ap (hashes_at _) c.in_ok-end.was)

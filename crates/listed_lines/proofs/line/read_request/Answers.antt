@@ -63,10 +63,11 @@ returns-then-mark-line c =
 
 pub returns : goal.returns
 returns c =
-    request_is c.first_key.ensures (ap key_at c.in_ok-key.was)
+    rw c.from.ensures
+    (request_is c.first_key.ensures (ap key_at c.in_ok-key.was)
     c.owner_at.ensures (ap owner_at c.in_ok-owner.was)
     (bool_took c.bool_at.ensures) (ap bool_at c.in_ok-info.was)
     c.package_at.ensures (ap (package_at _) c.in_ok-packed.was)
     c.list_at.ensures (ap (list_at _) c.in_ok-list.was)
     (bool_took c.bool_at-2.ensures) (ap bool_at c.in_ok-mark.was)
-    c.if-mark-line.false
+    c.if-mark-line.false)

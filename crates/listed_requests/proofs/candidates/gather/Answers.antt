@@ -5,7 +5,7 @@ use Rattle.listed_requests.proofs.Gathering.{gone_none, gone_more, too_many, all
 use Rattle.listed_requests.proofs.candidates.gather.Goals as goal
 
 pub loop-c-init : goal.loop-c-init
-loop-c-init c = (refl, omega arith, c.requires.0, gone_none _ _ _ c.args.n c.args.conns.now)
+loop-c-init c = (refl, omega arith, c.requires, gone_none _ _ _ c.args.n c.args.room.now.conns.now)
 
 pub returns-then-count-ge8-clause-gathers : goal.returns-then-count-ge8-clause-gathers
 returns-then-count-ge8-clause-gathers c =
@@ -17,7 +17,7 @@ loop-c-preserved c =
     let i = c.loop-c.invariant in
     let e = c.in-Some.ensures.same in
     let f = c.in-Some.ensures.next.takes in
-    (e ∙ i.0, omega (arith, i.1, f.on), omega (arith, c.if-count-ge8.false), rw e (gone_more i.3 f (omega (arith, c.loop-c.auto.conns, c.requires.1, c.if-count-ge8.false)) c.fits-fit.ensures))
+    (e ∙ i.0, omega (arith, i.1, f.on), omega (arith, c.if-count-ge8.false), rw e (gone_more i.3 f (omega (arith, c.if-count-ge8.false)) c.fits-fit.ensures))
 
 pub returns-clause-gathers : goal.returns-clause-gathers
 returns-clause-gathers c =

@@ -16,4 +16,4 @@ returns c =
     (c.from-preferred.ensures ∙ one_byte _)
     (c.from-owns.ensures ∙ one_byte _ ∙ ap one c.is_owner.ensures)
     (c.from-mark.ensures ∙ one_byte _)
-    c.deadline_for-deadline.ensures
+    c.deadline_for.ensures

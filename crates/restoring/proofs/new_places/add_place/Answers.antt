@@ -48,8 +48,8 @@ returns-then-r-is_some c =
     let count = c.wtxid_count-n in
     placed a.wtxids.now a.parents.now a.r c.requires.0 (rw c.is_some.ensures at c.if-r-is_some.true)
     c.requires.1 c.requires.2 count.result
-    c.combined_of-combined.ensures
-    c.stage_of-stage.ensures count.ensures c.append_place.ensures
+    c.combined_of.ensures
+    c.stage_of.ensures count.ensures c.append_place.ensures
 
 pub returns-else-r-is_some : goal.returns-else-r-is_some
 returns-else-r-is_some c =

@@ -11,4 +11,4 @@ returns c =
     let q = c.in_ok-hash.hash.value in
     let below = quad_below q (omega arith) (omega arith) (omega arith) (omega arith) in
     taken_there c.hash_at.ensures (ap hash_at c.in_ok-hash.was)
-    (hash-put c.args.hashes.now c.args.i c.requires q below c.hash_of.result c.hash_of.ensures c.put_hash.ensures)
+    (hash-put c.args.hashes.now c.args.i c.requires q below c.from.result c.from.ensures c.put_hash.ensures)
