@@ -90,6 +90,17 @@ recounted f g h e a = record {
   met = record { same = a.met.same; lost = a.met.lost; bound = λ y. omega (arith, h y, a.met.bound y); room = omega (arith, a.met.room) };
 }
 
+pub length_named : (xs ns ks : List ℕ) → length (names_of xs ns ks) ≡ length ns
+unfolding names_of names_with
+length_named [] ns ks = refl
+length_named (x ∷ xs) ns ks = length_named xs (names_with x ns ks) (counts_with x ns ks) ∙ one
+  where
+    one : length (names_with x ns ks) ≡ length ns
+    one = elim (test (is_in x ns)) [
+      | inl t ↦ rw t
+      | inr t ↦ elim (test (is_in 0 ks)) [ inl u ↦ rw (t, u) (length-set ns (index_of 0 ks) x) | inr u ↦ rw (t, u) ]
+    ]
+
 pub length_with : (x : ℕ) (ns ks : List ℕ) → length (counts_with x ns ks) ≡ length ks
 unfolding counts_with
 length_with x ns ks = elim (test (is_in x ns)) [

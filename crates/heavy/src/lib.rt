@@ -1,9 +1,7 @@
 // Which numbers come more than so many times in a list, found in two passes over it with a few counters (document 02, request b: no connection with more than 5,000
 // announcements, none that owns more than 100 requests).
 //
-// Names and counts are two slices, none of pairs: the second pass counts anew over the names of the first, and `seek` searches either.
-//
-// A counter has a name and a count. The contracts are equations between lists of numbers; the law of the two passes is `heavy-decides` (proofs/Frequent): with k counters
+// The contracts are equations between lists of numbers; the law of the two passes is `heavy-decides` (proofs/Frequent): with k counters
 // they tell exactly whether one of at most (k + 1) * most + k numbers comes more than `most` times.
 #![tactic(auto)]
 
@@ -26,36 +24,53 @@ fn lower(counts: &mut [u64])
     }
 }
 
-// First pass: x is met.
-pub fn note(names: &mut [u64], counts: &mut [u64], x: u64)
-    requires { (length names.old ≡ length counts.old) × (sum counts.old < 2 ^ 63) }
-    ensures { Notes names.old counts.old names.new counts.new x }
-{
-    if let Some(i) = seek(names, x) {
-        counts[i] += 1;
-        return;
-    }
-    if let Some(j) = seek(counts, 0) {
-        names[j] = x;
-        counts[j] = 1;
-        return;
-    }
-    lower(counts);
+// Counters: names, and beside each its count. (Two slices and no pairs: `seek` searches either.)
+#[derive(Drop)]
+pub struct Counters<'a> {
+    pub names: &'a mut [u64],
+    pub counts: &'a mut [u64],
+    ghost even: { length names.now ≡ length counts.now },
 }
 
-// Second pass: x is counted, if it has a name.
-pub fn count(names: &[u64], counts: &mut [u64], x: u64)
-    requires { (length names.now ≡ length counts.old) × (sum counts.old < 2 ^ 63) }
-    ensures { counts.new ≡ counted_with x names.now counts.old }
-{
-    if let Some(i) = seek(names, x) {
-        counts[i] += 1;
+impl<'a> Counters<'a> {
+    // First pass: x is met.
+    pub fn note(&mut self, x: u64)
+        requires { sum self.old.counts.now < 2 ^ 63 }
+        ensures { Notes self.old.names.now self.old.counts.now self.new.names.now self.new.counts.now x }
+    {
+        if let Some(i) = seek(&*self.names, x) {
+            self.counts[i] += 1;
+            return;
+        }
+        if let Some(j) = seek(&*self.counts, 0) {
+            self.names[j] = x;
+            self.counts[j] = 1;
+            return;
+        }
+        lower(self.counts);
     }
-}
 
-// Whether no count is above `most`.
-pub fn none_above(counts: &[u64], most: u64) -> bool
-    ensures { result ≡ none_above most counts.now }
-{
-    counts.iter().all(|&count| count <= most)
+    // Between the passes: each name stays, and its count is 0.
+    pub fn restart(&mut self)
+        ensures { (self.new.names.now ≡ self.old.names.now) × (sum self.new.counts.now ≡ 0) }
+    {
+        self.counts.fill(0);
+    }
+
+    // Second pass: x is counted, if it has a name.
+    pub fn count(&mut self, x: u64)
+        requires { sum self.old.counts.now < 2 ^ 63 }
+        ensures { (self.new.names.now ≡ self.old.names.now) × (self.new.counts.now ≡ counted_with x self.old.names.now self.old.counts.now) }
+    {
+        if let Some(i) = seek(&*self.names, x) {
+            self.counts[i] += 1;
+        }
+    }
+
+    // Whether no count is above `most`.
+    pub fn none_above(&self, most: u64) -> bool
+        ensures { result ≡ none_above most self.now.counts.now }
+    {
+        self.counts.iter().all(|&count| count <= most)
+    }
 }

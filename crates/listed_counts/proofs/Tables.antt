@@ -1,6 +1,6 @@
 -- What the passes tell of the table that the lines list.
 use Prim.Native.Nat.{ℕ, suc, ◌≤◌}
-use mathlib.Core.Path.{◌≡◌, refl, ap, subst}
+use mathlib.Core.Path.{◌≡◌, refl, sym, ap, subst, ◌∙◌}
 use mathlib.Core.Bool.{Bool, true, false}
 use mathlib.Core.List.{List, [], ◌∷◌}
 use mathlib.Core.Option.{Option, none, some}
@@ -16,7 +16,7 @@ use Rattle.machine.specs.SoundTest.{every, is_filled}
 use Rattle.machine.proofs.Tests.{and_left, and_right}
 use Rattle.heavy.specs.Counters.{none_above, sum, Few}
 use Rattle.heavy.specs.Streams.{connections_of, connections_in, owners_of, owners_in}
-use Rattle.heavy.proofs.Frequent.{heavy-decides}
+use Rattle.heavy.proofs.Frequent.{heavy-decides, length_named}
 use Rattle.heavy.proofs.Streams.{held_few, few_held, owned_few, few_owned}
 use Rattle.heavy.proofs.ListedStreams.{lines-connections, lines-owners}
 use Rattle.listed_form.specs.Given.{Body, requests_only}
@@ -25,9 +25,12 @@ use Rattle.listed_counts.specs.Passes.{stream, NotesAll, CountsAll, Verdict, Lig
 -- ---- both passes
 
 pub passes-tell : {b : List ℕ} {from most : ℕ} {o : Bool} {ns ks ns' zs zs' : List ℕ} {r : Bool} → NotesAll b from o ns ks ns' → CountsAll b from o ns' zs zs' → r ≡ none_above most zs'
-    → length ns ≡ length ks → sum ks ≡ 0 → length zs ≡ length ks → sum zs ≡ 0 → Verdict b from o most (length ks) r
+    → length ns ≡ length ks → sum ks ≡ 0 → length ns' ≡ length zs → sum zs ≡ 0 → Verdict b from o most (length ks) r
 passes-tell {most = most} {o = o} {ns = ns} {ks = ks} {zs = zs} n c e d z w y =
-    record { is = λ ls g h. rw (e, c.is ls g, n.is ls g) (heavy-decides most (stream o ls) ns ks zs d z w y h) }
+    record {
+      is = λ ls g h. let l : length zs ≡ length ks = sym w ∙ ap length (n.is ls g) ∙ length_named (stream o ls) ns ks ∙ d in
+          rw (e, c.is ls g, n.is ls g) (heavy-decides most (stream o ls) ns ks zs d z l y h);
+    }
 
 pub verdict_with : {b : List ℕ} {from most k m : ℕ} {o r : Bool} → k ≡ m → Verdict b from o most k r → Verdict b from o most m r
 verdict_with e v = rw (← e) v

@@ -6,10 +6,10 @@ use Rattle.regions.specs.declared.Key.{Key as RowKey}
 use Rattle.regions.specs.Rows.{quad_number}
 use Rattle.machine.specs.State.{Table, State, on_table}
 use Rattle.machine.specs.Listing.{Line, Rest, rest_of, read_listing}
-use Rattle.listed_lines.specs.declared.cursor.Lines.{Lines}
 use Rattle.listed_lines.specs.declared.line.Line as line-line
 use Rattle.listed_lines.specs.declared.line.Head as line-head
 use Rattle.listed_lines.specs.Given.{head_state, line_in, lines_of_text}
+use Rattle.listed_form.specs.declared.Listing.{Listing}
 use Rattle.listed_form.specs.Placed.{Met, Bad, Start, After, meets}
 
 -- a key as rows have it
@@ -48,9 +48,9 @@ pub record Reads (b : List ℕ) (h : line-head.Head) (e : ℕ) : Type 0 where
   pub body : Body b e (requests_only state.table)
 
 -- the first line, and the lines behind it; none of a text that lists no state
-abbrev pub FormAs : List ℕ → Option (line-head.Head × Lines) → Type 0
+abbrev pub FormAs : List ℕ → Option Listing → Type 0
 FormAs b None = read_listing b ≡ none
-FormAs b (Some p) = (p.1.text.now ≡ b) × Reads b p.0 p.1.at
+FormAs b (Some l) = (l.lines.text.now ≡ b) × Reads b l.head l.lines.at
 
-pub record FormRead (b : List ℕ) (r : Option (line-head.Head × Lines)) : Type 0 where
+pub record FormRead (b : List ℕ) (r : Option Listing) : Type 0 where
   pub is : FormAs b r

@@ -14,6 +14,13 @@ use listed_lines::cursor::{Lines, Lists};
 use listed_lines::hash_lists::ROOM;
 use listed_lines::line::{Head, Line};
 
+// A listing's first line, and the lines behind it.
+#[derive(Clone, Copy)]
+pub struct Listing<'a> {
+    pub head: Head,
+    pub lines: Lines<'a>,
+}
+
 // Whether the key a comes before b: by this clause rows' order is that of the places.
 pub fn comes_before(a: regions::Key, b: regions::Key) -> bool
     ensures { result ≡ ltb (place (key_in a)) (place (key_in b)) }
@@ -58,8 +65,8 @@ fn placed(mut lines: Lines, lists: &mut Lists) -> bool
     true
 }
 
-// The first line of a listing, and the lines behind it; none if the text is no listing.
-pub fn form_of(text: &[u8]) -> Option<(Head, Lines)>
+// The listing that a text is; none if it is no listing.
+pub fn form_of(text: &[u8]) -> Option<Listing>
     ensures { FormRead text.now result }
 {
     let mut wtxids = [0; ROOM];
@@ -76,5 +83,5 @@ pub fn form_of(text: &[u8]) -> Option<(Head, Lines)>
     if !placed(lines, &mut lists) {
         return None;
     }
-    Some((head, lines))
+    Some(Listing { head, lines })
 }

@@ -134,25 +134,33 @@ module _ {l : List ℕ} {e : ℕ} where
 -- ---- hashes one after the other
 
 -- those that are read, and the fields behind them
+both : List ℕ → List (List ℕ) → Option (List ℕ × List (List ℕ))
+both ys gs = some (ys, gs)
+
 many : ℕ → List ℕ → List (List ℕ) → Option (List ℕ × List (List ℕ))
-many n xs fs = elements_then (taking hash_of) n xs (λ ys gs. some (ys, gs)) fs
+many n xs fs = elements_then (taking hash_of) n xs both fs
 
 module _ {B : Type 0} (k : List ℕ → List (List ℕ) → Option B) where
   many_is : (n : ℕ) (xs : List ℕ) (fs : List (List ℕ)) → elements_then (taking hash_of) n xs k fs ≡ with_value (many n xs fs) (λ p. k p.0 p.1)
-  unfolding elements_then many taking
+  unfolding elements_then many both taking
   many_is zero xs fs = refl
   many_is (suc n) xs [] = refl
-  many_is (suc n) xs (f ∷ fs) = by_hash (hash_of f)
+  many_is (suc n) xs (f ∷ fs) = by_hash (hash_of f) (λ x. many_is n (xs ++ (x ∷ [])) fs)
     where
-      by_hash : (h : Option ℕ) → with_value h (λ x. elements_then (taking hash_of) n (xs ++ (x ∷ [])) k fs)
-          ≡ with_value (with_value h (λ x. elements_then (taking hash_of) n (xs ++ (x ∷ [])) (λ ys gs. some (ys, gs)) fs)) (λ p. k p.0 p.1)
-      by_hash none = refl
-      by_hash (some x) = many_is n (xs ++ (x ∷ [])) fs
+      by_hash : (h : Option ℕ) → ((x : ℕ) → elements_then (taking hash_of) n (xs ++ (x ∷ [])) k fs ≡ with_value (many n (xs ++ (x ∷ [])) fs) (λ p. k p.0 p.1))
+          → with_value h (λ x. elements_then (taking hash_of) n (xs ++ (x ∷ [])) k fs)
+          ≡ with_value (with_value h (λ x. many n (xs ++ (x ∷ [])) fs)) (λ p. k p.0 p.1)
+      by_hash none g = refl
+      by_hash (some x) g = g x
 
 -- so many of them, which are xs, end at an index
 abbrev pub hashes_at : List ℕ → Maybe ℕ → Option (At (List ℕ))
 hashes_at xs None = none
 hashes_at xs (Some e) = some (record { value = xs; end = e })
+
+no_more : (k : List ℕ → List (List ℕ) → Option events.Line) (xs : List ℕ) (fs : List (List ℕ)) → elements_then (taking hash_of) 0 xs k fs ≡ k xs fs
+unfolding elements_then
+no_more k xs fs = refl
 
 listed_then : {l : List ℕ} {e n : ℕ} {xs : List ℕ} (r : Maybe ℕ) → ListRead (taking hash_of) l e n xs r
     → (k : List ℕ → List (List ℕ) → Option events.Line) → elements_then (taking hash_of) n [] k (rest l (e + 1)) ≡ then_of l k (hashes_at xs r)
@@ -160,10 +168,6 @@ listed_then None p k = p.is k
 listed_then {l} {e} {n} {xs} (Some to) p k =
     let z : n - n ≡ 0 = omega arith in
     p.is.is k ∙ ap (λ (m : ℕ). elements_then (taking hash_of) m xs k (rest l (to + 1))) z ∙ no_more k xs (rest l (to + 1))
-  where
-    no_more : (k : List ℕ → List (List ℕ) → Option events.Line) (xs : List ℕ) (fs : List (List ℕ)) → elements_then (taking hash_of) 0 xs k fs ≡ k xs fs
-    unfolding elements_then
-    no_more k xs fs = refl
 
 pub hashes_took : {l : List ℕ} {e n : ℕ} {xs : List ℕ} {r : Maybe ℕ} → ListRead (taking hash_of) l e n xs r → Took (elements_then (taking hash_of) n []) l (rest l (e + 1)) (hashes_at xs r)
 hashes_took {l} {e} {n} {xs} {r} p = record {

@@ -22,7 +22,7 @@ pub fn list_at(line: &[u8], e: usize, least: u64, hashes: &mut [u8]) -> Option<P
     if count.value < least {
         return None;
     }
-    if MAX_PARENTS as u64 < count.value {
+    if (MAX_PARENTS as u64) < count.value {
         return None;
     }
     let value = count.value as usize;

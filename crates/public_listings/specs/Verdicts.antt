@@ -5,10 +5,10 @@ use Rattle.machine.specs.State.{State}
 use Rattle.machine.specs.Listing.{read_listing}
 use Rattle.machine.specs.SoundTest.{is_sound}
 use Rattle.listed_lines.specs.declared.line.Head as line-head
+use Rattle.listed_form.specs.declared.Listing.{Listing}
 use Rattle.listed_form.specs.Given.{Reads}
 use Rattle.outcome.specs.declared.refusal.Refusal.{Refusal}
 use Rattle.outcome.specs.declared.refusal.Refusal.TheVariants.{NotAListing, ListingNotSound}
-use Rattle.public_listings.specs.declared.verdict.Listing.{Listing}
 
 -- whether the state that the text lists, whose first line is h and whose other lines begin at index e, is sound
 pub record Sounds (b : List ℕ) (h : line-head.Head) (e : ℕ) (r : Bool) : Type 0 where
@@ -31,7 +31,7 @@ RefusedAs b _ = ⊥
 
 abbrev pub VerdictAs : List ℕ → Result Listing Refusal → Type 0
 VerdictAs b (Err r) = RefusedAs b r
-VerdictAs b (Ok l) = Whole b l.head l.from
+VerdictAs b (Ok l) = (l.lines.text.now ≡ b) × Whole b l.head l.lines.at
 
 pub record VerdictOf (b : List ℕ) (r : Result Listing Refusal) : Type 0 where
   pub is : VerdictAs b r

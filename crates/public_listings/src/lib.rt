@@ -6,8 +6,8 @@ ghost use Rattle.outcome.specs.Outcome.{Leaves, LeavesWith};
 ghost use Rattle.outcome.specs.Reply.{reply_of, text_of};
 ghost use Rattle.public_listings.specs.Verdicts.{Whole};
 
-use crate::verdict::{Listing, sound_listing};
-use listed_lines::cursor::Lines;
+use crate::verdict::sound_listing;
+use listed_form::Listing;
 use outcome::{RETURNED, Refusal, need, refusals};
 
 pub mod on_sound;
@@ -21,22 +21,16 @@ pub fn save(s: &[u8], answer: &mut [u8]) -> Result<u64, Refusal>
     on_sound::save(s, answer)
 }
 
-// The rest of reading, of a text that lists a sound state. Nothing was written before.
-fn restore_from(s: &mut [u8], text: &[u8], listing: Listing) -> Result<u64, Refusal>
-    requires { Whole text.now listing.head listing.from }
-    ensures { Leaves (Restore text.now) s.old s.new (reply_of result) }
+// The rest of reading, of the listing of a sound state. Nothing was written before.
+fn restore_from(s: &mut [u8], l: Listing) -> Result<u64, Refusal>
+    requires { Whole l.lines.text.now l.head l.lines.at }
+    ensures { Leaves (Restore l.lines.text.now) s.old s.new (reply_of result) }
 {
-    let l = listing.head.limit;
-    let q = listing.head.places;
-    let n = need(l as usize, q as usize);
+    let n = need(l.head.limit as usize, l.head.places as usize);
     if s.len() < n {
         return Err(Refusal::StoreTooShort);
     }
-    let lines = Lines {
-        text,
-        at: listing.from,
-    };
-    restoring::write_from(listing.head, lines, &mut s[..n]);
+    restoring::write_from(l, &mut s[..n]);
     Ok(RETURNED)
 }
 
@@ -45,5 +39,5 @@ pub fn restore(s: &mut [u8], text: &[u8]) -> Result<u64, Refusal>
     ensures { Leaves (Restore text.now) s.old s.new (reply_of result) }
 {
     let listing = sound_listing(text)?;
-    restore_from(s, text, listing)
+    restore_from(s, listing)
 }

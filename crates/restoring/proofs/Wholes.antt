@@ -1,26 +1,20 @@
 -- The first line, the lines behind it, and the connections: the whole store.
 use Prim.Native.Nat.{ℕ, ◌≤◌}
-use mathlib.Core.Path.{◌≡◌, refl, sym, ap, subst, ◌∙◌}
-use mathlib.Core.List.{List, [], ◌∷◌}
-use mathlib.Core.Option.{Option, none, some}
+use mathlib.Core.Path.{◌≡◌, sym, ap, subst, ◌∙◌}
+use mathlib.Core.List.{List}
 use native.Mathlib.Omega.{arith}
-use lib.ListN.{length, drop}
 use Rattle.machine.specs.Limits.{need, max_announcements, max_places}
-use Rattle.machine.specs.State.{Candidate, Request, State, on_table, is_some}
+use Rattle.machine.specs.State.{State, on_table}
 use Rattle.machine.specs.Sound.{Sound}
-use Rattle.machine.specs.Listing.{Line, HeadLine, RequestLine, CandidateLine, Rest, rest_of, text_lines, lines_in, one_more, state_of, tabled, tabled_from, read_in, read_listing}
-use Rattle.machine.proofs.Tests.{never}
 use Rattle.store.specs.Flat.{tally}
-use Rattle.store.specs.Image.{Shows, Writes}
+use Rattle.store.specs.Image.{Shows}
 use Rattle.store.specs.Shown.{conns_in, Shown, with_conns, Turns}
 use Rattle.store.proofs.Frame.{sizes, shown}
 use Rattle.store.proofs.Counts.{held-rows, places-rows}
 use Rattle.listed_lines.specs.declared.line.Head as line-head
-use Rattle.listed_lines.specs.declared.line.Line as line-line
-use Rattle.listed_lines.specs.declared.line.Line.TheVariants.{Not as NoLine, Head as IsHead, Request as IsRequest, Candidate as IsCandidate}
-use Rattle.listed_lines.specs.Given.{LineAt, head_state, request_in, candidate_in, line_in, lines_of_text, LineRead}
+use Rattle.listed_lines.specs.Given.{head_state}
 use Rattle.listed_form.specs.Given.{Body, requests_only}
-use Rattle.restoring.specs.Given.{bare, untallied, Headed, Readable, Restored, SoundListing}
+use Rattle.restoring.specs.Given.{bare, untallied, Headed, Readable, Restored}
 
 -- ---- the header, then the lines, then the connections
 

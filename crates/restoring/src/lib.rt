@@ -11,9 +11,10 @@ ghost use Rattle.store.specs.Image.{Shows};
 ghost use Rattle.listed_form.specs.Given.{Body, requests_only};
 ghost use Rattle.restoring.specs.Given.{LineRoom, TakesLine, bare, untallied, Headed, Readable, Restored};
 
+use listed_form::Listing;
 use listed_lines::cursor::{Lines, Lists};
 use listed_lines::hash_lists::ROOM;
-use listed_lines::line::{Head, Line, Request};
+use listed_lines::line::{Line, Request};
 
 pub mod candidate_rows;
 pub mod head_fields;
@@ -57,12 +58,12 @@ fn put_lines(mut lines: Lines, s: &mut [u8])
     }
 }
 
-// The state whose first line is h and whose other lines these are, into any bytes of its need.
-pub fn write_from(h: Head, lines: Lines, s: &mut [u8])
-    requires { Readable lines.text.now h lines.at (length s.old) }
-    ensures { Restored lines.entry.text.now h lines.entry.at s.new }
+// The state that a listing lists, into any bytes of its need.
+pub fn write_from(l: Listing, s: &mut [u8])
+    requires { Readable l.lines.text.now l.head l.lines.at (length s.old) }
+    ensures { Restored l.lines.text.now l.head l.lines.at s.new }
 {
-    head_fields::put_head(s, h);
-    put_lines(lines, s);
+    head_fields::put_head(s, l.head);
+    put_lines(l.lines, s);
     tallying::tally_rows(s);
 }

@@ -8,12 +8,12 @@ use Rattle.listed_counts.proofs.Lines.{count-begin, count_on, count_end}
 use Rattle.listed_counts.proofs.count_lines.Goals as goal
 
 pub loop-line-init : goal.loop-line-init
-loop-line-init g c = (refl, omega arith, count-begin c.args.names.now)
+loop-line-init g c = (refl, refl, omega arith, count-begin c.args.counters.now.names.now)
 
 pub count_number-requires : goal.count_number-requires
 count_number-requires g c =
     let n : c.loop-line.lines.at ≤ length c.args.lines.text.now = rw (← c.loop-line.invariant.0) c.loop-line.lines.within in
-    (c.requires.0 ∙ sym c.loop-line.auto.counts, omega (arith, c.loop-line.invariant.1, c.ranges.lines))
+    omega (arith, c.loop-line.invariant.2, c.ranges.lines)
 
 pub loop-line-smaller : goal.loop-line-smaller
 loop-line-smaller g c = let l = c.in-Some.ensures.line in rw c.in-Some.ensures.same (omega (arith, l.on, l.inside))
@@ -23,9 +23,10 @@ loop-line-preserved g c =
     let l = c.in-Some.ensures.line in
     let e = c.in-Some.ensures.same in (
       e ∙ c.loop-line.invariant.0,
-      omega (arith, sum_more c.args.names.now c.loop-line.counts (c.requires.0 ∙ sym c.loop-line.auto.counts) c.count_number.ensures, c.loop-line.invariant.1, l.on),
-      rw e (count_on c.loop-line.invariant.2 l c.number_of.ensures c.count_number.ensures),
+      c.count_number.ensures.0 ∙ c.loop-line.invariant.1,
+      omega (arith, sum_more c.loop-line.counters.names.now c.loop-line.counters.counts.now c.loop-line.counters.even c.count_number.ensures.1, c.loop-line.invariant.2, l.on),
+      rw e (count_on c.loop-line.invariant.3 l c.number_of.ensures (rw c.loop-line.invariant.1 at c.count_number.ensures.1)),
     )
 
 pub returns : goal.returns
-returns g c = rw (← c.loop-line.invariant.0) (count_end c.loop-line.invariant.2 (c.in_default.ensures.none refl).0)
+returns g c = rw (← c.loop-line.invariant.0) (count_end c.loop-line.invariant.3 (c.in_default.ensures.none refl).0)

@@ -8,8 +8,8 @@ use Rattle.listed_counts.proofs.count_lines.Given as goal
 
 abbrev pub invariant-loop-line : goal.invariant-loop-line
 invariant-loop-line g l =
-    (l.lines.text ≡ l.initial.lines.text) × (sum l.counts ≤ l.lines.at)
-    × Counting l.lines.text.now l.initial.lines.at g.N.Counted.owners l.names l.initial.counts l.lines.at l.counts
+    (l.lines.text ≡ l.initial.lines.text) × (l.counters.names.now ≡ l.initial.counters.names.now) × (sum l.counters.counts.now ≤ l.lines.at)
+    × Counting l.lines.text.now l.initial.lines.at g.N.Counted.owners l.initial.counters.names.now l.initial.counters.counts.now l.lines.at l.counters.counts.now
 
 abbrev pub decreases-loop-line : goal.decreases-loop-line
 decreases-loop-line g l = length l.lines.text.now - l.lines.at

@@ -3,4 +3,4 @@ use Rattle.listed_counts.proofs.Numbers.{counts_some}
 use Rattle.listed_counts.proofs.count_number.Goals as goal
 
 pub returns : goal.returns
-returns c = counts_some _ _ c.in-Some.is c.count.ensures
+returns c = (c.count.ensures.0, counts_some _ _ c.in-Some.is c.count.ensures.1)

@@ -13,7 +13,7 @@ loop-line-init g c = (refl, omega arith, note-begin)
 pub note_number-requires : goal.note_number-requires
 note_number-requires g c =
     let n : c.loop-line.lines.at ≤ length c.args.lines.text.now = rw (← c.loop-line.invariant.0) c.loop-line.lines.within in
-    (c.loop-line.auto.names ∙ c.requires.0 ∙ sym c.loop-line.auto.counts, omega (arith, c.loop-line.invariant.1, c.ranges.lines))
+    omega (arith, c.loop-line.invariant.1, c.ranges.lines)
 
 pub loop-line-smaller : goal.loop-line-smaller
 loop-line-smaller g c = let l = c.in-Some.ensures.line in rw c.in-Some.ensures.same (omega (arith, l.on, l.inside))
@@ -22,9 +22,9 @@ pub loop-line-preserved : goal.loop-line-preserved
 loop-line-preserved g c =
     let l = c.in-Some.ensures.line in
     let e = c.in-Some.ensures.same in
-    let same = c.loop-line.auto.names ∙ c.requires.0 ∙ sym c.loop-line.auto.counts in (
+    let same = c.loop-line.counters.even in (
       e ∙ c.loop-line.invariant.0,
-      omega (arith, sum-noted c.loop-line.names c.loop-line.counts same c.note_number.ensures, c.loop-line.invariant.1, l.on),
+      omega (arith, sum-noted c.loop-line.counters.names.now c.loop-line.counters.counts.now same c.note_number.ensures, c.loop-line.invariant.1, l.on),
       rw e (note_on c.loop-line.invariant.2 l c.number_of.ensures c.note_number.ensures),
     )
 

@@ -8,8 +8,8 @@ use Rattle.listed_counts.proofs.note_lines.Given as goal
 
 abbrev pub invariant-loop-line : goal.invariant-loop-line
 invariant-loop-line g l =
-    (l.lines.text ≡ l.initial.lines.text) × (sum l.counts ≤ l.lines.at)
-    × Noting l.lines.text.now l.initial.lines.at g.N.Counted.owners l.initial.names l.initial.counts l.lines.at l.names l.counts
+    (l.lines.text ≡ l.initial.lines.text) × (sum l.counters.counts.now ≤ l.lines.at)
+    × Noting l.lines.text.now l.initial.lines.at g.N.Counted.owners l.initial.counters.names.now l.initial.counters.counts.now l.lines.at l.counters.names.now l.counters.counts.now
 
 abbrev pub decreases-loop-line : goal.decreases-loop-line
 decreases-loop-line g l = length l.lines.text.now - l.lines.at

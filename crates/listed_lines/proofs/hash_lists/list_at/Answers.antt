@@ -12,16 +12,16 @@ returns-in_err-count c = rw c.from_residual.ensures (no_length _ (number_took nu
 pub returns-then-count-least : goal.returns-then-count-least
 returns-then-count-least c = too_short _ (number_took number_of c.number_at.ensures) (ap number_at c.in_ok-count.was) c.if-count-least.true
 
-pub returns-then-count-gt100 : goal.returns-then-count-gt100
-returns-then-count-gt100 c = too_long _ (number_took number_of c.number_at.ensures) (ap number_at c.in_ok-count.was) c.if-count-gt100.true
+pub returns-then-count : goal.returns-then-count
+returns-then-count c = too_long _ (number_took number_of c.number_at.ensures) (ap number_at c.in_ok-count.was) c.if-count.true
 
 pub returns-in_err-end : goal.returns-in_err-end
 returns-in_err-end c =
     rw c.from_residual-in_err-end.ensures
-    (no-hashes _ (number_took number_of c.number_at.ensures) (ap number_at c.in_ok-count.was) c.if-count-least.false c.if-count-gt100.false refl (hashes_took c.read_all.ensures)
+    (no-hashes _ (number_took number_of c.number_at.ensures) (ap number_at c.in_ok-count.was) c.if-count-least.false c.if-count.false refl (hashes_took c.read_all.ensures)
     (ap (hashes_at _) c.in_err-end.was))
 
 pub returns : goal.returns
 returns c =
-    hashes-are _ (number_took number_of c.number_at.ensures) (ap number_at c.in_ok-count.was) c.if-count-least.false c.if-count-gt100.false refl (hashes_took c.read_all.ensures)
+    hashes-are _ (number_took number_of c.number_at.ensures) (ap number_at c.in_ok-count.was) c.if-count-least.false c.if-count.false refl (hashes_took c.read_all.ensures)
     (ap (hashes_at _) c.in_ok-end.was)

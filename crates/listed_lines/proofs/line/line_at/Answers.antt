@@ -26,4 +26,4 @@ pub returns : goal.returns
 returns c =
     line_is c.args.text.now c.args.at c.requires.0
     c.find-end.ensures c.if-end-text.false
-    c.line_in-line.ensures
+    c.line_in.ensures

@@ -8,7 +8,7 @@ use Rattle.public_listings.proofs.verdict.sound_lines.Goals.{then-sizes_taken, e
 pub each_fits-requires : goal.each_fits-requires
 each_fits-requires c =
     let g = sym c.sizes_taken.ensures ∙ c.if-sizes_taken.true in
-    (taken-limit c.args.h.limit c.args.h.places g, taken_places c.args.h.limit c.args.h.places g)
+    (taken-limit c.args.l.head.limit c.args.l.head.places g, taken_places c.args.l.head.limit c.args.l.head.places g)
 
 pub returns-then-pairs_fit : goal.returns-then-pairs_fit
 returns-then-pairs_fit c = elim c.if-each_fits.branch [

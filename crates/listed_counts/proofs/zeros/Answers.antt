@@ -1,10 +1,10 @@
--- `listed_counts::counters` meets its contract.
+-- `listed_counts::zeros` meets its contract.
 use Prim.Native.Nat.{ℕ, zero, suc}
 use mathlib.Core.Path.{◌≡◌, refl}
 use native.Mathlib.Omega.{arith}
 use lib.ListN.{replicate, length-replicate}
 use Rattle.heavy.specs.Counters.{sum}
-use Rattle.listed_counts.proofs.counters.Goals as goal
+use Rattle.listed_counts.proofs.zeros.Goals as goal
 
 sum-zeros : (k : ℕ) → sum (replicate k 0) ≡ 0
 unfolding sum
