@@ -38,16 +38,18 @@ impl<'a> Counters<'a> {
         requires { sum self.old.counts.now < 2 ^ 63 }
         ensures { Notes self.old.names.now self.old.counts.now self.new.names.now self.new.counts.now x }
     {
-        if let Some(i) = seek(&*self.names, x) {
-            self.counts[i] += 1;
+        let names = &mut *self.names;
+        let counts = &mut *self.counts;
+        if let Some(i) = seek(names, x) {
+            counts[i] += 1;
             return;
         }
-        if let Some(j) = seek(&*self.counts, 0) {
-            self.names[j] = x;
-            self.counts[j] = 1;
+        if let Some(j) = seek(counts, 0) {
+            names[j] = x;
+            counts[j] = 1;
             return;
         }
-        lower(self.counts);
+        lower(counts);
     }
 
     // Between the passes: each name stays, and its count is 0.
@@ -62,7 +64,8 @@ impl<'a> Counters<'a> {
         requires { sum self.old.counts.now < 2 ^ 63 }
         ensures { (self.new.names.now ≡ self.old.names.now) × (self.new.counts.now ≡ counted_with x self.old.names.now self.old.counts.now) }
     {
-        if let Some(i) = seek(&*self.names, x) {
+        let names = &mut *self.names;
+        if let Some(i) = seek(names, x) {
             self.counts[i] += 1;
         }
     }

@@ -8,7 +8,7 @@ ghost use Rattle.listed_requests.specs.Given.{packs, owner_among, LineFits, Judg
 
 use crate::candidates::{Room, gather};
 use crate::distinct::{all_distinct, hashes_distinct, stands};
-use listed_lines::cursor::Lines;
+use listed_lines::cursor::{Lines, Lists};
 use listed_lines::line::Request;
 use listed_lines::parts::Owner;
 use machine::limits::MAX_PARENTS;
@@ -48,15 +48,14 @@ fn owner_stands(o: Option<Owner>, conns: &[u64]) -> bool
 }
 
 // What a request's line says. Its parents stand in the lent bytes.
-fn line_fits(r: Request, parents: &[u8]) -> bool
-    requires { list_room ≤ length parents.now }
-    ensures { LineFits parents.now r result }
+fn line_fits(r: Request, lists: &Lists) -> bool
+    ensures { LineFits lists.now.parents.now r result }
 {
     let n = r.parents;
     if MAX_PARENTS < n {
         return false;
     }
-    if !hashes_distinct(parents, n) {
+    if !hashes_distinct(lists.parents, n) {
         return false;
     }
     if !mark_fits(r.key.kind, r.mark) {
@@ -70,13 +69,14 @@ pub fn judge(lines: &mut Lines, r: Request, room: &mut Room) -> Option<usize>
     ensures same { lines.new.text ≡ lines.old.text }
     ensures judged { Judged lines.old.text.now lines.old.at room.old.lists.parents.now r result lines.new.at }
 {
-    if !line_fits(r, room.lists.parents) {
+    if !line_fits(r, &room.lists) {
         return None;
     }
     let g = gather(lines, r.key, 0, room)?;
     let count = g.count;
-    let once = all_distinct(&room.conns[..count]);
-    let owner = owner_stands(r.owner, &room.conns[..count]);
+    let conns = &mut *room.conns;
+    let once = all_distinct(&conns[..count]);
+    let owner = owner_stands(r.owner, &conns[..count]);
     let fit = g.fit & once & owner & (0 < count);
     if !fit {
         return None;
