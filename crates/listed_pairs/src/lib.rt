@@ -146,15 +146,16 @@ pub fn pairs_fit(lines: Lines) -> bool
     let mut wtxids = [0; ROOM];
     let mut parents = [0; ROOM];
     let mut conns = [0; MAX_ALTERNATES];
-    let mut room = Room {
-        lists: Lists {
-            wtxids: &mut wtxids,
-            parents: &mut parents,
-        },
-        conns: &mut conns,
+    let mut lists = Lists {
+        wtxids: &mut wtxids,
+        parents: &mut parents,
     };
     let mut front = lines;
-    let mut back = first_wtxid(lines, &mut room.lists);
+    let mut back = first_wtxid(lines, &mut lists);
+    let mut room = Room {
+        lists,
+        conns: &mut conns,
+    };
     while !back.is_empty() {
         if front.is_empty() {
             return true;

@@ -24,7 +24,7 @@ pub fn save(s: &[u8], answer: &mut [u8]) -> Result<u64, Refusal>
 // The rest of reading, of the listing of a sound state. Nothing was written before.
 fn restore_from(s: &mut [u8], l: Listing) -> Result<u64, Refusal>
     requires { Whole l.lines.text.now l.head l.lines.at }
-    ensures { Leaves (Restore l.lines.text.now) s.old s.new (reply_of result) }
+    ensures { Leaves (Restore l.entry.lines.text.now) s.old s.new (reply_of result) }
 {
     let n = need(l.head.limit as usize, l.head.places as usize);
     if s.len() < n {

@@ -6,7 +6,7 @@ use outcome::Refusal;
 
 // Whether the state that a listing lists is sound.
 fn sound_lines(l: Listing) -> bool
-    ensures { Sounds l.lines.text.now l.head l.lines.at result }
+    ensures { Sounds l.entry.lines.text.now l.entry.head l.entry.lines.at result }
 {
     public_requests::sizes_taken(l.head.limit, l.head.places)
         && listed_requests::each::each_fits(l.lines, l.head.limit, l.head.places)

@@ -2,10 +2,15 @@
 use mathlib.Core.Path.{◌≡◌, refl, ap, subst, ◌∙◌}
 use Prim.Native.Nat.{ℕ}
 use mathlib.Core.List.{List}
-use Rattle.ident.specs.Words.{maybe_key_num}
+use mathlib.Core.Option.{some}
+use Rattle.ident.specs.declared.Kind.{Kind}
+use Rattle.ident.specs.declared.Key.{Key as KeyRead}
+use Rattle.ident.specs.Words.{key_num, maybe_key_num}
 use Rattle.regions.specs.Regions.{each}
 use Rattle.std.specs.Prelude as answer
-use Rattle.lines.specs.Values.{number_in, key_in}
+use Rattle.std.specs.Option.{IsSomeAnd, MatchOption}
+use Rattle.lines.specs.declared.read.Named.{Named}
+use Rattle.lines.specs.Values.{number_in, named_key, key_in}
 use Rattle.machine.specs.Step.{empty}
 use Rattle.store.specs.Flat.{tally}
 use Rattle.store.specs.Image.{Shows, Writes}
@@ -30,3 +35,10 @@ headed h c w v en ek er = empty-bare h (numbers_of c) (λ i. record { next = (ap
     time-number : (m : answer.Option ℕ) → time_num m ≡ number_in m
     time-number answer.None = refl
     time-number (answer.Some n) = refl
+
+-- a key that may be missing, taken over; `Answers n k`: k may be the answer of n
+pub key-over : (m : answer.Option (Named Kind)) (r : answer.Option KeyRead) {Answers : Named Kind → KeyRead → Type 0} → ((n : Named Kind) (k : KeyRead) → Answers n k → key_num k ≡ named_key n)
+    → MatchOption m (r ≡ answer.None) (λ n. IsSomeAnd r (Answers n)) → maybe_key_num r ≡ key_in m
+key-over answer.None r f e = rw e refl
+key-over (answer.Some n) answer.None f a = absurd a
+key-over (answer.Some n) (answer.Some k) f a = ap some (f n k a)

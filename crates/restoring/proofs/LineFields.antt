@@ -14,13 +14,14 @@ use Rattle.ident.specs.contracts.ItemKindPartialEq.TheImpl.{eq-value as item_kin
 use Rattle.words.specs.Words.{number, recs}
 use Rattle.words.proofs.Records.{length-recs, recs-take}
 use Rattle.lent_lists.specs.Lists.{hashes_in}
+use Rattle.regions.specs.declared.Quad.{Quad}
 use Rattle.regions.specs.declared.Row.{Row}
 use Rattle.places.specs.Places.{Place, PlaceShort, list_most}
 use Rattle.regions.specs.Rows.{quad_number}
 use Rattle.machine.specs.State.{Request, owner_is}
 use Rattle.machine.specs.Table.{one}
 use Rattle.machine.specs.Typed.{Each}
-use Rattle.std.specs.Prelude.{Option as Maybe, Some, None, is_some}
+use Rattle.std.specs.Prelude.{Option as Maybe, Some, None, MatchOption, is_some}
 use Rattle.machine.proofs.Tests.{never}
 use Rattle.ident.specs.Number.{kind_number}
 use Rattle.store.specs.Flat.{witness_bit, deadline_for, row_of, place_for, places_for}
@@ -44,11 +45,25 @@ no-hashes : (ws : List ℕ) → hashes_of 0 ws ≡ []
 unfolding recs
 no-hashes ws = refl
 
-pub flag-combined : (ws : List ℕ) → quad_number (record { w0 = 0; w1 = 0; w2 = 0; w3 = 0 }) ≡ combined_for (package_of ws None)
-flag-combined ws = quad_zero
+-- what is answered of a package, or in its place; `Answers x`: it may be answered of x
+module _ (p : Maybe parts-package.Package) where
+  pub combined-is : {q : Quad} {Answers : parts-package.Package → Type 0} → ((x : parts-package.Package) → Answers x → q ≡ x.combined)
+      → MatchOption p (q ≡ record { w0 = 0; w1 = 0; w2 = 0; w3 = 0 }) Answers → (ws : List ℕ) → quad_number q ≡ combined_for (package_of ws p)
+  combined-is f m ws = by p f m
+    where
+      by : (p : Maybe parts-package.Package) {q : Quad} {Answers : parts-package.Package → Type 0} → ((x : parts-package.Package) → Answers x → q ≡ x.combined)
+          → MatchOption p (q ≡ record { w0 = 0; w1 = 0; w2 = 0; w3 = 0 }) Answers → quad_number q ≡ combined_for (package_of ws p)
+      by None f e = rw e quad_zero
+      by (Some x) f a = ap quad_number (f x a)
 
-pub flag-wtxids : (ws : List ℕ) → hashes_of 0 ws ≡ wtxids_for (package_of ws None)
-flag-wtxids ws = no-hashes ws
+  pub wtxids-are : {n : ℕ} {Answers : parts-package.Package → Type 0} → ((x : parts-package.Package) → Answers x → n ≡ x.wtxids) → MatchOption p (n ≡ 0) Answers
+      → (ws : List ℕ) → hashes_of n ws ≡ wtxids_for (package_of ws p)
+  wtxids-are f m ws = by p f m
+    where
+      by : (p : Maybe parts-package.Package) {n : ℕ} {Answers : parts-package.Package → Type 0} → ((x : parts-package.Package) → Answers x → n ≡ x.wtxids)
+          → MatchOption p (n ≡ 0) Answers → hashes_of n ws ≡ wtxids_for (package_of ws p)
+      by None f e = rw e (no-hashes ws)
+      by (Some x) f a = ap (λ (n : ℕ). hashes_of n ws) (f x a)
 
 -- ---- the row of a candidate
 

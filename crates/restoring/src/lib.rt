@@ -61,7 +61,7 @@ fn put_lines(mut lines: Lines, s: &mut [u8])
 // The state that a listing lists, into any bytes of its need.
 pub fn write_from(l: Listing, s: &mut [u8])
     requires { Readable l.lines.text.now l.head l.lines.at (length s.old) }
-    ensures { Restored l.lines.text.now l.head l.lines.at s.new }
+    ensures { Restored l.entry.lines.text.now l.entry.head l.entry.lines.at s.new }
 {
     head_fields::put_head(s, l.head);
     put_lines(l.lines, s);

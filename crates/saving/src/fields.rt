@@ -4,17 +4,17 @@
 // So the same walk measures a listing, over an `out` of no use, and writes it.
 //
 // The index goes beside the bytes, as in crates/lines (src/write.rt) and for its reason. It may lie behind their end too, where a walk only measures.
-ghost use Rattle.std.specs.Prelude.{◌≡◌, ◌+◌, ◌≤◌, [], ◌∷◌, length};
+ghost use Rattle.std.specs.Prelude.{◌≡◌, ◌+◌, ◌≤◌, ◌∷◌, length};
 ghost use Rattle.ident.specs.Words.{hash_num, key_num};
 ghost use Rattle.regions.specs.Rows.{quad_number};
 ghost use Rattle.machine.specs.Table.{one};
 ghost use Rattle.store.specs.Gather.{kind_is, item_kind_as};
-ghost use Rattle.machine.specs.Text.{decimal_digits, decimal, hash_digits, hexadecimal, bool_text, kind_letter, item_kind_text};
+ghost use Rattle.machine.specs.Text.{decimal_digits, decimal, hash_digits, hexadecimal, bool_text, item_kind_text};
 ghost use Rattle.machine.specs.Listing.{short, maybe_fields, key_field, owner_fields};
 ghost use Rattle.package_stages.specs.Changes.{owner_as};
 ghost use Rattle.saving.specs.Laid.{Lays, farthest, number_room, hash_room, key_room, owner_room, behind};
 
-use lines::write::put_bytes;
+use lines::write::{kind_letter, put_bytes};
 
 pub fn put_text(out: &mut [u8], at: usize, t: &[u8]) -> usize
     requires { at + length t.now ≤ farthest }
@@ -49,20 +49,8 @@ pub fn put_key(out: &mut [u8], at: usize, k: ident::Key) -> usize
     requires { at + key_room ≤ farthest }
     ensures { (result ≤ at + key_room) × Lays out.old out.new at (key_field short (key_num k)) result }
 {
-    let e = put_kind(out, at, k.kind);
-    let q = regions::Quad::from(k.hash);
-    put_hash(out, e, q)
-}
-
-// A letter's text, so that it is measured too where it does not fit.
-fn put_kind(out: &mut [u8], at: usize, kind: ident::Kind) -> usize
-    requires { at + 1 ≤ farthest }
-    ensures { Lays out.old out.new at (kind_letter kind ∷ []) result }
-{
-    match kind {
-        ident::Kind::Txid => put_text(out, at, b"t"),
-        ident::Kind::Wtxid => put_text(out, at, b"w"),
-    }
+    let e = put_text(out, at, &[kind_letter(k.kind)]);
+    put_hash(out, e, regions::Quad::from(k.hash))
 }
 
 // The letter of an item, by whether its key is a Wtxid and whether it is v: two bits of a row, as the store packs them. (An `ident::ItemKind` has kinds that no row has.)
@@ -92,8 +80,7 @@ pub fn next_hash(out: &mut [u8], at: usize, h: ident::Hash) -> usize
     ensures { (result ≤ at + hash_room) × Lays out.old out.new at (44 ∷ hexadecimal (hash_num h)) result }
 {
     let from = put_text(out, at, b",");
-    let q = regions::Quad::from(h);
-    put_hash(out, from, q)
+    put_hash(out, from, regions::Quad::from(h))
 }
 
 // The digit of a bool: b picks the text alone.

@@ -3,11 +3,11 @@ use mathlib.Core.Path.{refl}
 use Rattle.listed_pairs.proofs.Comparing.{pairs-begin, front_end, back_end}
 use Rattle.listed_pairs.proofs.pairs_fit.Goals as goal
 
-pub loop-lists-init : goal.loop-lists-init
-loop-lists-init c = (refl, c.first_wtxid-back.ensures.same, pairs-begin c.first_wtxid-back.ensures.first)
+pub loop-front-init : goal.loop-front-init
+loop-front-init c = (refl, c.first_wtxid-back.ensures.same, pairs-begin c.first_wtxid-back.ensures.first)
 
 pub returns-then-is_empty : goal.returns-then-is_empty
-returns-then-is_empty c = let i = c.loop-lists.invariant in front_end i.2 (rw i.0 at (c.if-is_empty.ensures.0 refl))
+returns-then-is_empty c = let i = c.loop-front.invariant in front_end i.2 (rw i.0 at (c.if-is_empty.ensures.0 refl))
 
 pub returns : goal.returns
-returns c = let i = c.loop-lists.invariant in back_end i.2 (rw i.1 at (c.loop-lists-test.ensures.0 refl))
+returns c = let i = c.loop-front.invariant in back_end i.2 (rw i.1 at (c.loop-front-test.ensures.0 refl))

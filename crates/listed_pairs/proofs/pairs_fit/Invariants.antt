@@ -5,8 +5,8 @@ use lib.ListN.{length}
 use Rattle.listed_pairs.proofs.Comparing.{Underway}
 use Rattle.listed_pairs.proofs.pairs_fit.Given as goal
 
-abbrev pub invariant-loop-lists : goal.invariant-loop-lists
-invariant-loop-lists l = (l.front.text ≡ l.lines.text) × (l.back.text ≡ l.lines.text) × Underway l.lines.text.now l.lines.at l.front.at l.back.at
+abbrev pub invariant-loop-front : goal.invariant-loop-front
+invariant-loop-front l = (l.front.text ≡ l.lines.text) × (l.back.text ≡ l.lines.text) × Underway l.lines.text.now l.lines.at l.front.at l.back.at
 
-abbrev pub decreases-loop-lists : goal.decreases-loop-lists
-decreases-loop-lists l = (length l.lines.text.now - l.front.at) + (length l.lines.text.now - l.back.at)
+abbrev pub decreases-loop-front : goal.decreases-loop-front
+decreases-loop-front l = (length l.lines.text.now - l.front.at) + (length l.lines.text.now - l.back.at)

@@ -1,6 +1,7 @@
 -- `restoring::new_places::combined_of` meets its contract.
-use Rattle.restoring.proofs.LineFields.{flag-combined}
+use borrow.Author.Rules.{rules}
+use Rattle.restoring.proofs.LineFields.{combined-is}
 use Rattle.restoring.proofs.new_places.combined_of.Goals as goal
 
-pub returns-in-None : goal.returns-in-None
-returns-in-None c = rw c.in-None.is flag-combined
+pub returns : goal.returns
+returns c = combined-is c.args.p (λ x a. search rules) c.map_or.ensures

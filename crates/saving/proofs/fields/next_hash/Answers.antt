@@ -7,5 +7,5 @@ pub returns : goal.returns
 returns c = (
   omega (arith, c.put_text-from.ensures.next, c.put_hash.ensures.0),
   next_hash-laid
-      c.from-q.ensures c.put_text-from.ensures c.put_hash.ensures.1,
+      c.from.ensures c.put_text-from.ensures c.put_hash.ensures.1,
 )
