@@ -10,26 +10,23 @@ use Rattle.lines.specs.Text.{Wrote}
 use Rattle.reading.specs.Line.{Asks}
 use Rattle.printing.specs.Replies.{refusal_text}
 use Rattle.printing.specs.Given.{Printed}
-use Rattle.printing.specs.Kept.{kept_after}
+use Rattle.printing.specs.Kept.{KeptLists, no_lists, kept_after}
+use Rattle.printing.specs.Answers.{Answered}
 use Rattle.printing.proofs.Printing.{reply-ok, reply-refused}
-use Rattle.keeping.specs.Lists.{kept_lists, Ordered, Emptied}
-use Rattle.keeping.specs.Steps.{Stepped}
 
-module _ {l b : List ℕ} {e : Effect} (L Q : ℕ) (d : Does (Open L Q) b e) {b' : List ℕ} (s : b' ≡ e.store) {out out' : List ℕ} {r n : ℕ} where
-  pub step_refused : Ordered l → e.reply ≡ Refused n → Printed out out' (refusal_text n) r → Stepped (some (Asks (Open L Q))) l l b b' out out' r
-  step_refused w y t = record {
-    order = w;
-    answered = record {
-      is =
-          record { carried = record { effect = e; does = d; store = s; text = reply-refused (Open L Q) y t }; kept = sym (ap (λ (z : Reply). kept_after (Asks (Open L Q)) z (kept_lists l)) y) };
+module _ {k : KeptLists} {b : List ℕ} {e : Effect} (L Q : ℕ) (d : Does (Open L Q) b e) {b' : List ℕ} (s : b' ≡ e.store) {out out' : List ℕ} {r n : ℕ} where
+  pub step_refused : e.reply ≡ Refused n → Printed out out' (refusal_text n) r → Answered (some (Asks (Open L Q))) k k b b' out out' r
+  step_refused y t = record {
+    is = record {
+      carried = record { effect = e; does = d; store = s; text = reply-refused (Open L Q) y t };
+      kept = sym (ap (λ (z : Reply). kept_after (Asks (Open L Q)) z k) y);
     };
   }
 
-  pub step_opened : {l' : List ℕ} → Emptied l' → e.reply ≡ Number n → Wrote out out' 0 (111 ∷ 107 ∷ []) r → Stepped (some (Asks (Open L Q))) l l' b b' out out' r
+  pub step_opened : {k' : KeptLists} → k' ≡ no_lists → e.reply ≡ Number n → Wrote out out' 0 (111 ∷ 107 ∷ []) r → Answered (some (Asks (Open L Q))) k k' b b' out out' r
   step_opened w y t = record {
-    order = w.order;
-    answered = record {
-      is =
-          record { carried = record { effect = e; does = d; store = s; text = reply-ok L Q y t }; kept = w.none ∙ sym (ap (λ (z : Reply). kept_after (Asks (Open L Q)) z (kept_lists l)) y) };
+    is = record {
+      carried = record { effect = e; does = d; store = s; text = reply-ok L Q y t };
+      kept = w ∙ sym (ap (λ (z : Reply). kept_after (Asks (Open L Q)) z k) y);
     };
   }

@@ -5,20 +5,20 @@ ghost use Rattle.machine.specs.Call.{Open};
 ghost use Rattle.reading.specs.Line.{Asks};
 ghost use Rattle.asking.specs.Calls.{line_of};
 ghost use Rattle.printing.specs.Given.{line_room, answer_room};
-ghost use Rattle.keeping.specs.Lists.{Ordered};
-ghost use Rattle.keeping.specs.Steps.{Stepped};
+ghost use Rattle.printing.specs.Answers.{Answered};
 
 use asking::calls::Asked;
+use keeping::kept::Lists;
 use lines::write::put_bytes;
 use printing::numbers::{refusal, unreadable};
 
-fn answer_open(store: &mut [u8], lists: &mut [u8], out: &mut [u8], l: u64, q: u64) -> usize
-    requires { Ordered lists.old × (answer_room ≤ length out.old) }
-    ensures { Stepped (some (Asks (Open l q))) lists.old lists.new store.old store.new out.old out.new result }
+fn answer_open(store: &mut [u8], lists: &mut Lists, out: &mut [u8], l: u64, q: u64) -> usize
+    requires { answer_room ≤ length out.old }
+    ensures { Answered (some (Asks (Open l q))) lists.old lists.new store.old store.new out.old out.new result }
 {
     match public_requests::open(store, l, q) {
         Ok(_) => {
-            keeping::kept::empty(lists);
+            *lists = Lists::none();
             put_bytes(out, 0, b"ok")
         }
         Err(e) => refusal(out, e),
@@ -26,9 +26,9 @@ fn answer_open(store: &mut [u8], lists: &mut [u8], out: &mut [u8], l: u64, q: u6
 }
 
 // The step on one line.
-pub fn answer_line(store: &mut [u8], lists: &mut [u8], line: &[u8], out: &mut [u8]) -> usize
-    requires { Ordered lists.old × (answer_room ≤ length out.old) × (length line.now ≤ line_room) }
-    ensures { Stepped (line_of line.now) lists.old lists.new store.old store.new out.old out.new result }
+pub fn answer_line(store: &mut [u8], lists: &mut Lists, line: &[u8], out: &mut [u8]) -> usize
+    requires { (answer_room ≤ length out.old) × (length line.now ≤ line_room) }
+    ensures { Answered (line_of line.now) lists.old lists.new store.old store.new out.old out.new result }
 {
     let Some(asked) = asking::calls::call_of(line) else {
         return unreadable(out);

@@ -18,10 +18,8 @@ use Rattle.asking.specs.Calls.{line_of}
 use Rattle.printing.specs.Replies.{refusal_text, unreadable}
 use Rattle.printing.specs.Given.{line_room}
 use Rattle.printing.specs.Kept.{KeptLists, no_lists, Meant, Calls, Parts, meant}
-use Rattle.keeping.specs.Lists.{kept_lists}
 use Rattle.printing.specs.Answers as answers
-use Rattle.printing.specs.Answers.{AnsweredAs}
-use Rattle.keeping.specs.Steps.{Stepped}
+use Rattle.printing.specs.Answers.{AnsweredAs, Answered}
 use Rattle.events.specs.Input.{asked_in, has_line, HeldLine, asks_for, MeantAs, Replied, line_feed, LineAnswered, Reading, started, ReadsAll}
 use Rattle.events.specs.Input.{nothing, further, EndsAs, Held, Said, Took, TookAll, TookSome, Ended, Ran}
 
@@ -57,11 +55,10 @@ length_fed : (t : List ℕ) → length (t ++ (line_feed ∷ [])) ≡ suc (length
 length_fed t = length-append t (line_feed ∷ []) ∙ omega arith
 
 -- and a line feed behind it
-pub fed : {o : Option Line} {l l' b b' out out' : List ℕ} {r e : ℕ} → Stepped o l l' b b' out out' r → r < length out' → e ≡ suc r → Said o l l' b b' (set out' r line_feed) e
-fed {o} {l} {l'} {b} {b'} {out} {out'} {r} {e} a h q =
-    let t = text_of (kept_lists l) (kept_lists l') b b' out out' r o a.answered.is in
+pub fed : {o : Option Line} {k k' : KeptLists} {b b' out out' : List ℕ} {r e : ℕ} → Answered o k k' b b' out out' r → r < length out' → e ≡ suc r → Said o k k' b b' (set out' r line_feed) e
+fed {o} {k} {k'} {b} {b'} {out} {out'} {r} {e} a h q =
+    let t = text_of k k' b b' out out' r o a.is in
     record {
-      order = a.order;
       text = t.text;
       replied = t.replied;
       count = omega (arith, q, t.wrote.next, length_fed t.text);
@@ -74,21 +71,21 @@ asked-line : (k : Kept) (buffer line : List ℕ) → HeldLine k buffer line → 
 asked-line (Whole n) buffer line h = rw (le-ltb line_room (length line) h.1) (ap line_of h.2)
 asked-line TooLong buffer line h = rw (lt-ltb line_room (length line) h) refl
 
-module _ {k : Kept} {buffer store lists : List ℕ} {p : Reading} (g : Held k buffer store lists p) where
-  answered-line : {lists' store' out : List ℕ} {r : ℕ} (a : Said (asked_in k buffer) lists lists' store store' out r)
-      → LineAnswered p.line p.kept (kept_lists lists') p.store store' (a.text ++ (line_feed ∷ []))
+module _ {k : Kept} {buffer store : List ℕ} {lists : KeptLists} {p : Reading} (g : Held k buffer store lists p) where
+  answered-line : {lists' : KeptLists} {store' out : List ℕ} {r : ℕ} (a : Said (asked_in k buffer) lists lists' store store' out r)
+      → LineAnswered p.line p.kept lists' p.store store' (a.text ++ (line_feed ∷ []))
   answered-line {lists'} {store'} a =
-      let w = subst (λ (o : Option Line). Replied o (kept_lists lists) (kept_lists lists') store store' a.text) (asked-line k buffer p.line g.line_is) a.replied in
-      let x = subst (λ (b : List ℕ). Replied (asks_for p.line) (kept_lists lists) (kept_lists lists') b store' a.text) g.store_is w in
-      record { text = a.text; replied = subst (λ (z : KeptLists). Replied (asks_for p.line) z (kept_lists lists') p.store store' a.text) g.lists-are x; said_is = refl }
+      let w = subst (λ (o : Option Line). Replied o lists lists' store store' a.text) (asked-line k buffer p.line g.line_is) a.replied in
+      let x = subst (λ (b : List ℕ). Replied (asks_for p.line) lists lists' b store' a.text) g.store_is w in
+      record { text = a.text; replied = subst (λ (z : KeptLists). Replied (asks_for p.line) z lists' p.store store' a.text) g.lists-are x; said_is = refl }
 
   -- ---- a byte
 
-  pub took_feed : {x : ℕ} {none : Length} {lists' store' out : List ℕ} {r : ℕ} → x ≡ line_feed → none.bytes ≡ 0 → Said (asked_in k buffer) lists lists' store store' out r
+  pub took_feed : {x : ℕ} {none : Length} {lists' : KeptLists} {store' out : List ℕ} {r : ℕ} → x ≡ line_feed → none.bytes ≡ 0 → Said (asked_in k buffer) lists lists' store store' out r
       → Took p x (Whole none) buffer store' lists' out
   took_feed {x} {none} {lists'} {store'} {out} {r} e z a =
       record {
-        next = record { line = []; store = store'; kept = kept_lists lists' };
+        next = record { line = []; store = store'; kept = lists' };
         said = a.text ++ (line_feed ∷ []);
         reads = record { is = rw (eq-eqb x line_feed e) (refl, answered-line a) };
         held = record { line_is = (z, omega arith, rw z refl); store_is = refl; lists-are = refl };
@@ -109,12 +106,12 @@ one_longer : (l : List ℕ) (x : ℕ) → length (l ++ (x ∷ [])) ≡ suc (leng
 one_longer l x = length-append l (x ∷ []) ∙ omega arith
 
 -- the line is too long already
-pub took_longer : (k : Kept) {x : ℕ} {buffer store lists out : List ℕ} {p : Reading} → ((n : Length) → k ≡ Whole n → ⊥) → Held k buffer store lists p → (x ≡ line_feed → ⊥)
+pub took_longer : (k : Kept) {x : ℕ} {buffer store : List ℕ} {lists : KeptLists} {out : List ℕ} {p : Reading} → ((n : Length) → k ≡ Whole n → ⊥) → Held k buffer store lists p → (x ≡ line_feed → ⊥)
     → Took p x k buffer store lists out
 took_longer (Whole n) short g other = absurd (short n refl)
 took_longer TooLong {x} {p = p} short g other = took_other g other (omega (arith, g.line_is, one_longer p.line x))
 
-module _ {n : Length} {x : ℕ} {buffer store lists : List ℕ} {p : Reading} (g : Held (Whole n) buffer store lists p) (other : x ≡ line_feed → ⊥) where
+module _ {n : Length} {x : ℕ} {buffer store : List ℕ} {lists : KeptLists} {p : Reading} (g : Held (Whole n) buffer store lists p) (other : x ≡ line_feed → ⊥) where
   -- the buffer is full
   pub took_over : {out : List ℕ} → n.bytes ≡ line_room → Took p x TooLong buffer store lists out
   took_over e = took_other g other (omega (arith, g.line_is.0, one_longer p.line x))
@@ -139,34 +136,35 @@ pub no-line : (k : Kept) (buffer line : List ℕ) → HeldLine k buffer line →
 no-line (Whole n) buffer line h e = omega (arith, h.0, ltb-false 0 n.bytes e)
 no-line TooLong buffer line h e = cc
 
-pub ended-empty : {k : Kept} {buffer store lists out : List ℕ} {p : Reading} → Held k buffer store lists p → length p.line ≡ 0 → Ended p store out
+pub ended-empty : {k : Kept} {buffer store : List ℕ} {lists : KeptLists} {out : List ℕ} {p : Reading} → Held k buffer store lists p → length p.line ≡ 0 → Ended p store out
 ended-empty {store = store} {p = p} g n = record { kept = p.kept; said = []; ends = go p.line n; shown = refl }
   where
     go : (l : List ℕ) → length l ≡ 0 → EndsAs l p.kept p.kept p.store store []
     go [] z = (g.store_is, refl)
     go (x ∷ l) z = absurd (omega (arith, z))
 
-pub ended-line : {k : Kept} {buffer store lists lists' store' out : List ℕ} {p : Reading} {r : ℕ} → Held k buffer store lists p → 0 < length p.line
+pub ended-line : {k : Kept} {buffer store : List ℕ} {lists lists' : KeptLists} {store' out : List ℕ} {p : Reading} {r : ℕ} → Held k buffer store lists p → 0 < length p.line
     → Said (asked_in k buffer) lists lists' store store' out r → Ended p store' out
 ended-line {k} {buffer} {store} {lists} {lists'} {store'} {out} {p} g n a =
     record {
-      kept = kept_lists lists';
+      kept = lists';
       said = a.text ++ (line_feed ∷ []);
       ends = go p.line n (answered-line g a);
       shown = rw (← a.count) a.shown;
     }
   where
-    go : (l : List ℕ) → 0 < length l → LineAnswered l p.kept (kept_lists lists') p.store store' (a.text ++ (line_feed ∷ []))
-        → EndsAs l p.kept (kept_lists lists') p.store store' (a.text ++ (line_feed ∷ []))
+    go : (l : List ℕ) → 0 < length l → LineAnswered l p.kept lists' p.store store' (a.text ++ (line_feed ∷ []))
+        → EndsAs l p.kept lists' p.store store' (a.text ++ (line_feed ∷ []))
     go [] z w = absurd (omega (arith, z))
     go (x ∷ l) z w = w
 
 -- ---- bytes one after the other
 
-pub took_none : {k : Kept} {buffer store lists : List ℕ} {p : Reading} → Held k buffer store lists p → TookAll p [] k buffer store lists
+pub took_none : {k : Kept} {buffer store : List ℕ} {lists : KeptLists} {p : Reading} → Held k buffer store lists p → TookAll p [] k buffer store lists
 took_none {p = p} g = record { next = p; said = []; reads = nothing p; held = g }
 
-pub took_one : {p : Reading} {xs ys : List ℕ} {k : Kept} {buffer store lists : List ℕ} {x : ℕ} {k' : Kept} {buffer' store' lists' out : List ℕ} → (t : TookAll p xs k buffer store lists)
+pub took_one : {p : Reading} {xs ys : List ℕ} {k : Kept} {buffer store : List ℕ} {lists : KeptLists} {x : ℕ} {k' : Kept} {buffer' store' : List ℕ} {lists' : KeptLists}
+    {out : List ℕ} → (t : TookAll p xs k buffer store lists)
     → Took t.next x k' buffer' store' lists' out → ys ≡ xs ++ (x ∷ [])
     → TookAll p ys k' buffer' store' lists'
 took_one {p} {xs} {ys} {x = x} t u e = record {
@@ -184,7 +182,7 @@ reads_on p m xs a r m' q ys c (further s zs n before x t said u v) e =
     let w = further p (xs ++ zs) n (a ++ before) x q said (reads_on p m xs a r m' n zs before u e) v in
     subst (λ (l : List ℕ). ReadsAll p (xs ++ (zs ++ (x ∷ []))) q l) (append_assoc a before said) (subst (λ (l : List ℕ). ReadsAll p l q ((a ++ before) ++ said)) (append_assoc xs zs (x ∷ [])) w)
 
-pub took_more : {p : Reading} {k : Kept} {buffer store lists : List ℕ} {k' : Kept} {buffer' store' lists' : List ℕ} → (t : TookSome p k buffer store lists)
+pub took_more : {p : Reading} {k : Kept} {buffer store : List ℕ} {lists : KeptLists} {k' : Kept} {buffer' store' : List ℕ} {lists' : KeptLists} → (t : TookSome p k buffer store lists)
     → TookSome t.all.next k' buffer' store' lists' → TookSome p k' buffer' store' lists'
 took_more {p} t u =
     record {
@@ -197,12 +195,12 @@ took_more {p} t u =
       };
     }
 
-pub nothing_held : {none : Length} (buffer store lists : List ℕ) → none.bytes ≡ 0 → kept_lists lists ≡ no_lists → Held (Whole none) buffer store lists (started store)
+pub nothing_held : {none : Length} (buffer store : List ℕ) (lists : KeptLists) → none.bytes ≡ 0 → lists ≡ no_lists → Held (Whole none) buffer store lists (started store)
 nothing_held buffer store lists z w = record { line_is = (z, omega arith, rw z refl); store_is = refl; lists-are = w }
 
 -- ---- the whole input
 
-pub ran : {b : List ℕ} {k : Kept} {buffer store lists store' out : List ℕ} → (t : TookSome (started b) k buffer store lists) → Ended t.all.next store' out → Ran b store'
+pub ran : {b : List ℕ} {k : Kept} {buffer store : List ℕ} {lists : KeptLists} {store' out : List ℕ} → (t : TookSome (started b) k buffer store lists) → Ended t.all.next store' out → Ran b store'
 ran t e = record {
   bytes = t.bytes;
   said = t.all.said ++ e.said;
@@ -215,5 +213,6 @@ ran t e = record {
 pub take_next : (l : List ℕ) (i : ℕ) → i < length l → take (i + 1) l ≡ take i l ++ (get_or l i 0 ∷ [])
 take_next l i h = let e : i + 1 ≡ suc i = omega arith in rw e (take-suc l i 0 h)
 
-pub took_whole : {p : Reading} {xs : List ℕ} {k : Kept} {buffer store lists : List ℕ} (i : ℕ) → length xs ≤ i → TookAll p (take i xs) k buffer store lists → TookAll p xs k buffer store lists
+pub took_whole : {p : Reading} {xs : List ℕ} {k : Kept} {buffer store : List ℕ} {lists : KeptLists} (i : ℕ) → length xs ≤ i → TookAll p (take i xs) k buffer store lists
+    → TookAll p xs k buffer store lists
 took_whole {p} {xs} {k} {buffer} {store} {lists} i h t = subst (λ (l : List ℕ). TookAll p l k buffer store lists) (take_all i xs h) t

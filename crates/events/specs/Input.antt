@@ -12,7 +12,6 @@ use Rattle.asking.specs.Calls.{line_of}
 use Rattle.printing.specs.Replies.{refusal_text, unreadable, reply_text}
 use Rattle.printing.specs.Given.{line_room}
 use Rattle.printing.specs.Kept.{KeptLists, no_lists, Meant, Calls, Parts, meant, kept_after}
-use Rattle.keeping.specs.Lists.{kept_lists, Ordered}
 use Rattle.printing.specs.Answers.{part_text}
 
 -- ---- what a line does
@@ -114,27 +113,26 @@ abbrev pub HeldLine : Kept → List ℕ → List ℕ → Type 0
 HeldLine (Whole n) buffer line = (n.bytes ≡ length line) × (length line ≤ line_room) × (take n.bytes buffer ≡ line)
 HeldLine TooLong buffer line = line_room < length line
 
--- and the kept lists in theirs
-pub record Held (k : Kept) (buffer store lists : List ℕ) (p : Reading) : Type 0 where
+-- and the kept lists are those of the reading
+pub record Held (k : Kept) (buffer store : List ℕ) (lists : KeptLists) (p : Reading) : Type 0 where
   pub line_is : HeldLine k buffer p.line
   pub store_is : store ≡ p.store
-  pub lists-are : kept_lists lists ≡ p.kept
+  pub lists-are : lists ≡ p.kept
 
 -- what holds of every reading that the program keeps so
-abbrev pub OfHeld : Kept → List ℕ → List ℕ → List ℕ → (Reading → Type 0) → Type 0
+abbrev pub OfHeld : Kept → List ℕ → List ℕ → KeptLists → (Reading → Type 0) → Type 0
 OfHeld k buffer store lists P = (p : Reading) → Held k buffer store lists p → P p
 
 -- ---- the contracts
 
 -- the line that was printed, and its line feed: r bytes at the front of out, which are written
-pub record Said (o : Option Line) (l l' b b' out : List ℕ) (r : ℕ) : Type 0 where
-  pub order : Ordered l'
+pub record Said (o : Option Line) (k k' : KeptLists) (b b' out : List ℕ) (r : ℕ) : Type 0 where
   pub text : List ℕ
-  pub replied : Replied o (kept_lists l) (kept_lists l') b b' text
+  pub replied : Replied o k k' b b' text
   pub count : r ≡ length (text ++ (line_feed ∷ []))
   pub shown : take r out ≡ text ++ (line_feed ∷ [])
 
-pub record Took (p : Reading) (x : ℕ) (k : Kept) (buffer store lists out : List ℕ) : Type 0 where
+pub record Took (p : Reading) (x : ℕ) (k : Kept) (buffer store : List ℕ) (lists : KeptLists) (out : List ℕ) : Type 0 where
   pub next : Reading
   pub said : List ℕ
   pub reads : Reads p x next said
@@ -142,14 +140,14 @@ pub record Took (p : Reading) (x : ℕ) (k : Kept) (buffer store lists out : Lis
   -- what is written stands at the front of out
   pub shown : take (length said) out ≡ said
 
-pub record TookAll (p : Reading) (xs : List ℕ) (k : Kept) (buffer store lists : List ℕ) : Type 0 where
+pub record TookAll (p : Reading) (xs : List ℕ) (k : Kept) (buffer store : List ℕ) (lists : KeptLists) : Type 0 where
   pub next : Reading
   pub said : List ℕ
   pub reads : ReadsAll p xs next said
   pub held : Held k buffer store lists next
 
 -- some bytes: which, no contract of a reader says
-pub record TookSome (p : Reading) (k : Kept) (buffer store lists : List ℕ) : Type 0 where
+pub record TookSome (p : Reading) (k : Kept) (buffer store : List ℕ) (lists : KeptLists) : Type 0 where
   pub bytes : List ℕ
   pub all : TookAll p bytes k buffer store lists
 

@@ -4,20 +4,17 @@
 ghost use Rattle.std.specs.Prelude.{◌≤◌, length, ◌≡◌, unwrap_or};
 ghost use Rattle.printing.specs.Given.{line_room, answer_room};
 ghost use Rattle.printing.specs.Kept.{no_lists};
-ghost use Rattle.keeping.specs.Lists.{kept_bytes, kept_lists, Ordered};
-ghost use Rattle.keeping.specs.Steps.{Stepped};
+ghost use Rattle.printing.specs.Answers.{Answered};
 ghost use Rattle.events.specs.Input.{asked_in, has_line, started, OfHeld, Said, Took, TookAll, TookSome, Ended, Ran};
 
 use crate::kept::{Kept, Length};
+use keeping::kept::Lists;
 use std::io::{Read, Write};
 
 // The longest line that is read, and the longest answer with its line feed.
 const LINE: usize = 65_536;
 
 const OUT: usize = 1_500_000;
-
-// The lists that are kept between lines.
-const LISTS: usize = 36_288;
 
 pub fn out_buffer() -> [u8; OUT]
     ensures { length result ≡ answer_room }
@@ -31,19 +28,13 @@ pub fn line_buffer() -> [u8; LINE]
     [0u8; LINE]
 }
 
-pub fn list_buffer() -> [u8; LISTS]
-    ensures { length result ≡ kept_bytes }
-{
-    [0u8; LISTS]
-}
-
 // None of a line.
 const NOTHING: Kept = Kept::Whole(Length { bytes: 0 });
 
 // The text of a line's answer: of no call, if the line is too long.
-fn print(store: &mut [u8], lists: &mut [u8], line: &[u8], kept: Kept, out: &mut [u8]) -> usize
-    requires { Ordered lists.old × (answer_room ≤ length out.old) × (line_room ≤ length line.now) }
-    ensures { Stepped (asked_in kept line.now) lists.old lists.new store.old store.new out.old out.new result }
+fn print(store: &mut [u8], lists: &mut Lists, line: &[u8], kept: Kept, out: &mut [u8]) -> usize
+    requires { (answer_room ≤ length out.old) × (line_room ≤ length line.now) }
+    ensures { Answered (asked_in kept line.now) lists.old lists.new store.old store.new out.old out.new result }
 {
     match kept {
         Kept::Whole(len) => answering::answers::answer_line(store, lists, &line[..len.bytes], out),
@@ -56,12 +47,12 @@ fn print(store: &mut [u8], lists: &mut [u8], line: &[u8], kept: Kept, out: &mut 
 fn answer<W: Write>(
     output: &mut W,
     store: &mut [u8],
-    lists: &mut [u8],
+    lists: &mut Lists,
     line: &[u8],
     kept: Kept,
     out: &mut [u8],
 ) -> usize
-    requires { Ordered lists.old × (answer_room ≤ length out.old) × (line_room ≤ length line.now) }
+    requires { (answer_room ≤ length out.old) × (line_room ≤ length line.now) }
     ensures { Said (asked_in kept line.now) lists.old lists.new store.old store.new out.new result }
 {
     let n = print(store, lists, line, kept, out);
@@ -75,15 +66,14 @@ fn answer<W: Write>(
 fn take<W: Write>(
     output: &mut W,
     store: &mut [u8],
-    lists: &mut [u8],
+    lists: &mut Lists,
     line: &mut [u8],
     out: &mut [u8],
     kept: Kept,
     b: u8,
 ) -> Kept
-    requires { Ordered lists.old × (line_room ≤ length line.old) × (answer_room ≤ length out.old) }
-    ensures ordered { Ordered lists.new }
-    ensures took { OfHeld kept line.old store.old lists.old
+    requires { (line_room ≤ length line.old) × (answer_room ≤ length out.old) }
+    ensures { OfHeld kept line.old store.old lists.old
         (λ p. Took p b result line.new store.new lists.new out.new) }
 {
     if b == b'\n' {
@@ -105,15 +95,14 @@ fn take<W: Write>(
 fn take_all<W: Write>(
     output: &mut W,
     store: &mut [u8],
-    lists: &mut [u8],
+    lists: &mut Lists,
     line: &mut [u8],
     out: &mut [u8],
     kept: Kept,
     bytes: &[u8],
 ) -> Kept
-    requires { Ordered lists.old × (line_room ≤ length line.old) × (answer_room ≤ length out.old) }
-    ensures ordered { Ordered lists.new }
-    ensures took { OfHeld kept line.old store.old lists.old
+    requires { (line_room ≤ length line.old) × (answer_room ≤ length out.old) }
+    ensures { OfHeld kept line.old store.old lists.old
         (λ p. TookAll p bytes.now result line.new store.new lists.new) }
 {
     let mut now = kept;
@@ -128,14 +117,13 @@ fn read_some<R: Read, W: Write>(
     input: &mut R,
     output: &mut W,
     store: &mut [u8],
-    lists: &mut [u8],
+    lists: &mut Lists,
     line: &mut [u8],
     out: &mut [u8],
     kept: Kept,
 ) -> Option<Kept>
-    requires { Ordered lists.old × (line_room ≤ length line.old) × (answer_room ≤ length out.old) }
-    ensures ordered { Ordered lists.new }
-    ensures took { OfHeld kept line.old store.old lists.old
+    requires { (line_room ≤ length line.old) × (answer_room ≤ length out.old) }
+    ensures { OfHeld kept line.old store.old lists.old
         (λ p. TookSome p (unwrap_or result kept) line.new store.new lists.new) }
 {
     let mut bytes = [0u8; 4096];
@@ -151,13 +139,12 @@ fn read_lines<R: Read, W: Write>(
     input: &mut R,
     output: &mut W,
     store: &mut [u8],
-    lists: &mut [u8],
+    lists: &mut Lists,
     line: &mut [u8],
     out: &mut [u8],
 ) -> Kept
-    requires { Ordered lists.old × (kept_lists lists.old ≡ no_lists) × (line_room ≤ length line.old) × (answer_room ≤ length out.old) }
-    ensures ordered { Ordered lists.new }
-    ensures took { TookSome (started store.old) result line.new store.new lists.new }
+    requires { (lists.old ≡ no_lists) × (line_room ≤ length line.old) × (answer_room ≤ length out.old) }
+    ensures { TookSome (started store.old) result line.new store.new lists.new }
 {
     let mut kept = NOTHING;
     for _ in 0..u64::MAX {
@@ -186,12 +173,12 @@ fn has_line(kept: Kept) -> bool
 fn end<W: Write>(
     output: &mut W,
     store: &mut [u8],
-    lists: &mut [u8],
+    lists: &mut Lists,
     line: &[u8],
     out: &mut [u8],
     kept: Kept,
 )
-    requires { Ordered lists.old × (line_room ≤ length line.now) × (answer_room ≤ length out.old) }
+    requires { (line_room ≤ length line.now) × (answer_room ≤ length out.old) }
     ensures { OfHeld kept line.now store.old lists.old (λ p. Ended p store.new out.new) }
 {
     if has_line(kept) {
@@ -204,14 +191,13 @@ pub fn run<R: Read, W: Write>(
     input: &mut R,
     output: &mut W,
     store: &mut [u8],
-    lists: &mut [u8],
     line: &mut [u8],
     out: &mut [u8],
 )
-    requires { (length lists.old ≡ kept_bytes) × (line_room ≤ length line.old) × (answer_room ≤ length out.old) }
+    requires { (line_room ≤ length line.old) × (answer_room ≤ length out.old) }
     ensures { Ran store.old store.new }
 {
-    keeping::kept::empty(lists);
-    let last = read_lines(input, output, store, lists, line, out);
-    end(output, store, lists, line, out, last);
+    let mut lists = Lists::none();
+    let last = read_lines(input, output, store, &mut lists, line, out);
+    end(output, store, &mut lists, line, out, last);
 }

@@ -18,7 +18,6 @@ const CLOSED: u8 = 141;
 
 fn main(rt: HostRuntime) -> ExitCode {
     let mut store = [0u8; STORE];
-    let mut lists = input::list_buffer();
     let mut line = input::line_buffer();
     let mut out = input::out_buffer();
     let mut output = Output::from(rt.stdout());
@@ -26,7 +25,6 @@ fn main(rt: HostRuntime) -> ExitCode {
         &mut rt.stdin(),
         &mut output,
         &mut store,
-        &mut lists,
         &mut line,
         &mut out,
     );

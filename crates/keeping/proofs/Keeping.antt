@@ -1,25 +1,19 @@
--- Entries in bytes: a part of them, and the lists that are kept.
+-- Entries in bytes: those at the front, and a part of them.
 use Prim.Native.Nat.{ℕ, zero, suc, ◌+◌, ◌*◌, ◌-◌, ◌/◌, ◌%◌, ◌≤◌}
-use mathlib.Core.Path.{◌≡◌, refl, sym, ap, subst, ◌∙◌}
+use mathlib.Core.Path.{◌≡◌, refl, sym, ap, ◌∙◌}
 use mathlib.Core.Bool.{not}
 use mathlib.Core.List.{List, [], ◌∷◌, ◌++◌}
 use native.Mathlib.Omega.{arith}
-use lib.Dec.{eqb, lit≤}
-use lib.ListN.{length, take, drop, get_or, set, length-append, length-drop, length-set}
-use lib.Seq.{take-add, take-take, drop-drop, take_at, drop_at, take-append-le, drop-append-le, length-take-le, get_or-drop, get_or-set_same, get_or-set_other}
+use lib.Dec.{eqb}
+use lib.ListN.{length, take, drop, get_or, length-append}
+use lib.Seq.{take-add, take-take, take_at, drop_at, length-take-le}
 use Rattle.ident.specs.Number.{item_kind_of}
-use Rattle.words.specs.Words.{number, words, Put}
-use Rattle.words.proofs.Words.{word_at, length-words}
-use Rattle.words.proofs.Parts.{words-drop}
-use Rattle.store.proofs.Bounds.{ascend-sorted}
-use Rattle.regions.specs.Order.{Sorted}
+use Rattle.words.specs.Words.{number, words}
+use Rattle.words.proofs.Words.{word_at}
 use Rattle.machine.specs.State.{Entry}
 use Rattle.machine.specs.Call.{entry_bytes}
 use Rattle.store.specs.Gather.{kind_is}
 use Rattle.claiming.specs.Claiming.{entry_from, entries_from, entries_in}
-use Rattle.public_plans.specs.Parts.{connections_in}
-use Rattle.printing.specs.Given.{most_entries}
-use Rattle.keeping.specs.Lists.{count_in, list_in, list_bytes, plan_part, taken_part, arranged_part, kept_bytes, kept_lists, Fits, InOrder, Ordered, Holds, Emptied}
 
 -- ---- a window of the front
 
@@ -92,168 +86,12 @@ entries_part b (suc first) n (suc m) i h =
 
 -- ---- a list that is kept
 
-list_of : (p : List ℕ) → list_in p ≡ entries_in (take (count_in p * entry_bytes) (drop entry_bytes p))
-unfolding list_in
-list_of p = refl
+-- what was copied to the front of a list's bytes
+pub copied : (b u : List ℕ) (n : ℕ) {v : List ℕ} → n * entry_bytes ≤ length u → v ≡ take (n * entry_bytes) u → entries_from (v ++ b) 0 n ≡ entries_from u 0 n
+copied b u n {v} h e =
+    let l : length v ≡ n * entry_bytes = ap length e ∙ length-take-le (n * entry_bytes) u h in
+    sym (entries-of (v ++ b) n (omega (arith, l, length-append v b))) ∙ ap entries_in (take_at v b (n * entry_bytes) l ∙ e) ∙ entries-of u n h
 
--- its bytes, as far as they are read
-pub list-bytes : (p : List ℕ) {end : ℕ} → end ≡ count_in p * entry_bytes + entry_bytes → entries_in (take (end - entry_bytes) (drop entry_bytes p)) ≡ list_in p
-list-bytes p {end} e =
-    let k : end - entry_bytes ≡ count_in p * entry_bytes = omega (arith, e) in
-    ap (λ (j : ℕ). entries_in (take j (drop entry_bytes p))) k ∙ sym (list_of p)
-
-pub list_held : {p s p' v : List ℕ} (u : List ℕ) (n : ℕ) → length p ≡ list_bytes → n ≤ most_entries → entry_bytes * n ≤ length u → Put p s 0 n → length s ≡ length p → v ≡ take (n * entry_bytes) u
-    → p' ≡ take entry_bytes s ++ (v ++ drop (n * entry_bytes + entry_bytes - entry_bytes) (drop entry_bytes s)) → Holds p' (entries_from u 0 n)
-list_held {p} {s} {p'} {v} u n long most inside put same copied e = record { fits = record { long = is_long; count = omega (arith, count) }; list = list_is }
-  where
-    front_long : length (take entry_bytes s) ≡ entry_bytes
-    front_long = length-take-le entry_bytes s (omega (arith, long, same))
-
-    copy-long : length v ≡ n * entry_bytes
-    copy-long = ap length copied ∙ length-take-le (n * entry_bytes) u (omega arith)
-
-    is_long : length p' ≡ list_bytes
-    is_long =
-        let k = length-append v (drop (n * entry_bytes + entry_bytes - entry_bytes) (drop entry_bytes s)) in
-        let d = length-drop (n * entry_bytes + entry_bytes - entry_bytes) (drop entry_bytes s) in
-        let f = length-drop entry_bytes s in
-        ap length e ∙ length-append (take entry_bytes s) (v ++ drop (n * entry_bytes + entry_bytes - entry_bytes) (drop entry_bytes s))
-        ∙ omega (arith, k, d, f, front_long, copy-long, long, same, most)
-
-    first_word : take 8 p' ≡ take 8 s
-    first_word =
-        ap (take 8) e ∙ take-append-le 8 (take entry_bytes s) (v ++ drop (n * entry_bytes + entry_bytes - entry_bytes) (drop entry_bytes s)) (omega (arith, front_long))
-        ∙ take-take 8 entry_bytes s (lit≤ tt)
-
-    count : count_in p' ≡ n
-    count =
-        word_at p' 0 (omega (arith, is_long)) ∙ ap (number 256) first_word ∙ sym (word_at s 0 (omega (arith, long, same)))
-        ∙ ap (λ (w : List ℕ). get_or w 0 0) put.word ∙ get_or-set_same (words p) 0 n 0 (omega (arith, length-words p, long))
-
-    behind-count : drop entry_bytes p' ≡ v ++ drop (n * entry_bytes + entry_bytes - entry_bytes) (drop entry_bytes s)
-    behind-count = ap (drop entry_bytes) e ∙ drop_at (take entry_bytes s) (v ++ drop (n * entry_bytes + entry_bytes - entry_bytes) (drop entry_bytes s)) entry_bytes front_long
-
-    list_is : list_in p' ≡ entries_from u 0 n
-    list_is = list_of p' ∙ (λ i. entries_in (take (count i * entry_bytes) (behind-count i)))
-        ∙ ap entries_in (take_at v (drop (n * entry_bytes + entry_bytes - entry_bytes) (drop entry_bytes s)) (n * entry_bytes) copy-long ∙ copied) ∙ entries-of u n (omega arith)
-
--- ---- the bytes between lines
-
-pub ordered : {l : List ℕ} → InOrder l → Ordered l
-unfolding Ordered
-ordered w = w
-
-pub order-of : (l : List ℕ) → Ordered l → InOrder l
-unfolding Ordered
-order-of l w = w
-
--- ---- the three lists, one of them changed
-
--- the three parts of l
-pub record Three (l p q r : List ℕ) : Type 0 where
-  pub long : length l ≡ kept_bytes
-  pub plan_is : plan_part l ≡ p
-  pub taken_is : taken_part l ≡ q
-  pub arranged_is : arranged_part l ≡ r
-
-pub new_plan : (l : List ℕ) {l' : List ℕ} (p : List ℕ) → length l ≡ kept_bytes → length p ≡ list_bytes → l' ≡ p ++ drop list_bytes l → Three l' p (taken_part l) (arranged_part l)
-new_plan l {l'} p h k e = record {
-  long = ap length e ∙ length-append p (drop list_bytes l) ∙ omega (arith, length-drop list_bytes l);
-  plan_is = ap plan_part e ∙ take_at p (drop list_bytes l) list_bytes k;
-  taken_is = ap taken_part e ∙ ap (take list_bytes) (drop_at p (drop list_bytes l) list_bytes k);
-  arranged_is = ap arranged_part e ∙ ap (take list_bytes) (sym (drop-drop list_bytes list_bytes (p ++ drop list_bytes l)) ∙ ap (drop list_bytes) (drop_at p (drop list_bytes l) list_bytes k) ∙
-      drop-drop list_bytes list_bytes l);
-}
-
-pub new_taken : (l : List ℕ) {l' : List ℕ} (p : List ℕ) → length l ≡ kept_bytes → length p ≡ list_bytes → l' ≡ take list_bytes l ++ (p ++ drop list_bytes (drop list_bytes l))
-    → Three l' (plan_part l) p (arranged_part l)
-new_taken l {l'} p h k e =
-    let z = drop list_bytes (drop list_bytes l) in
-    let f : length (take list_bytes l) ≡ list_bytes = length-take-le list_bytes l (omega arith) in
-    let a : drop list_bytes l' ≡ p ++ z = ap (drop list_bytes) e ∙ drop_at (take list_bytes l) (p ++ z) list_bytes f in
-    record {
-      long = ap length e ∙ length-append (take list_bytes l) (p ++ z) ∙ omega (arith, length-append p z, length-drop list_bytes (drop list_bytes l), length-drop list_bytes l);
-      plan_is = ap plan_part e ∙ take_at (take list_bytes l) (p ++ z) list_bytes f;
-      taken_is = ap (take list_bytes) a ∙ take_at p z list_bytes k;
-      arranged_is = ap (take list_bytes) (sym (drop-drop list_bytes list_bytes l') ∙ ap (drop list_bytes) a ∙ drop_at p z list_bytes k ∙ drop-drop list_bytes list_bytes l);
-    }
-
-pub new_arranged : (l : List ℕ) {l' : List ℕ} (p : List ℕ) → length l ≡ kept_bytes → length p ≡ list_bytes → l' ≡ take (2 * list_bytes) l ++ (p ++ drop list_bytes (drop (2 * list_bytes) l))
-    → Three l' (plan_part l) (taken_part l) p
-new_arranged l {l'} p h k e =
-    let z = drop list_bytes (drop (2 * list_bytes) l) in
-    let f : length (take (2 * list_bytes) l) ≡ 2 * list_bytes = length-take-le (2 * list_bytes) l (omega arith) in
-    let d : drop list_bytes l' ≡ drop list_bytes (take (2 * list_bytes) l) ++ (p ++ z) = ap (drop list_bytes) e ∙ drop-append-le list_bytes (take (2 * list_bytes) l) (p ++ z) (omega arith) in
-    record {
-      long = ap length e ∙ length-append (take (2 * list_bytes) l) (p ++ z) ∙ omega (arith, length-append p z, length-drop list_bytes (drop (2 * list_bytes) l), length-drop (2 * list_bytes) l);
-      plan_is = ap plan_part e ∙ take-append-le list_bytes (take (2 * list_bytes) l) (p ++ z) (omega arith) ∙ take-take list_bytes (2 * list_bytes) l (lit≤ tt);
-      taken_is =
-          ap (take list_bytes) d ∙ take-append-le list_bytes (drop list_bytes (take (2 * list_bytes) l)) (p ++ z) (omega (arith, length-drop list_bytes (take (2 * list_bytes) l)))
-          ∙ window list_bytes list_bytes (2 * list_bytes) l (lit≤ tt) (omega arith);
-      arranged_is = ap (take list_bytes) (ap (drop (2 * list_bytes)) e ∙ drop_at (take (2 * list_bytes) l) (p ++ z) (2 * list_bytes) f) ∙ take_at p z list_bytes k;
-    }
-
-module _ {l p q r : List ℕ} (t : Three l p q r) where
-  pub in_order : Fits p → Fits q → Fits r → Sorted (connections_in (list_in r)) → Ordered l
-  in_order a b c s = ordered (record {
-    long = t.long;
-    plan = subst Fits (sym t.plan_is) a;
-    taken = subst Fits (sym t.taken_is) b;
-    arranged = subst Fits (sym t.arranged_is) c;
-    sorted = subst (λ (x : List ℕ). Sorted (connections_in (list_in x))) (sym t.arranged_is) s;
-  })
-
-  pub kept_is : {x y z : List Entry} → list_in p ≡ x → list_in q ≡ y → list_in r ≡ z → kept_lists l ≡ record { plan = x; taken = y; arranged = z }
-  kept_is e f g =
-      let a = ap list_in t.plan_is ∙ e in
-      let b = ap list_in t.taken_is ∙ f in
-      let c = ap list_in t.arranged_is ∙ g in
-      λ i. record { plan = a i; taken = b i; arranged = c i }
-
--- ---- nothing is kept
-
-list_none : (p : List ℕ) → count_in p ≡ 0 → list_in p ≡ []
-list_none p e = list_of p ∙ ap (λ (n : ℕ). entries_in (take (n * entry_bytes) (drop entry_bytes p))) e ∙ sym (none_of [] 0)
-
-module _ {l s₁ s₂ s₃ : List ℕ} (long : length l ≡ kept_bytes) (p₁ : Put l s₁ 0 0) (p₂ : Put s₁ s₂ 1512 0) (p₃ : Put s₂ s₃ 3024 0) (same : length s₃ ≡ length l) where
-  all_words : words s₃ ≡ set (set (set (words l) 0 0) 1512 0) 3024 0
-  all_words = p₃.word ∙ ap (λ (x : List ℕ). set x 3024 0) (p₂.word ∙ ap (λ (x : List ℕ). set x 1512 0) p₁.word)
-
-  zero_word : (j : ℕ) → get_or (set (set (set (words l) 0 0) 1512 0) 3024 0) j 0 ≡ 0 → get_or (words s₃) j 0 ≡ 0
-  zero_word j e = ap (λ (x : List ℕ). get_or x j 0) all_words ∙ e
-
-  first_count : count_in (plan_part s₃) ≡ 0
-  first_count =
-      word_front s₃ list_bytes (omega arith) 0 (lit≤ tt)
-      ∙ zero_word 0 (get_or-set_other (set (set (words l) 0 0) 1512 0) 3024 0 0 0 (λ z. omega arith) ∙ get_or-set_other (set (words l) 0 0) 1512 0 0 0 (λ z. omega arith) ∙
-      get_or-set_same (words l) 0 0 0 (omega (arith, length-words l)))
-
-  part_count : (k : ℕ) → 8 * k + list_bytes ≤ length s₃ → count_in (take list_bytes (drop (8 * k) s₃)) ≡ get_or (words s₃) (k + 0) 0
-  part_count k h =
-      word_front (drop (8 * k) s₃) list_bytes (omega (arith, length-drop (8 * k) s₃)) 0 (lit≤ tt) ∙ ap (λ (x : List ℕ). get_or x 0 0) (words-drop s₃ k (omega arith)) ∙ get_or-drop k (words s₃) 0 0
-
-  second-count : count_in (taken_part s₃) ≡ 0
-  second-count =
-      part_count 1512 (omega arith)
-      ∙ zero_word 1512 (get_or-set_other (set (set (words l) 0 0) 1512 0) 3024 1512 0 0 (λ z. omega arith) ∙
-      get_or-set_same (set (words l) 0 0) 1512 0 0 (omega (arith, length-words l, length-set (words l) 0 0)))
-
-  third-count : count_in (arranged_part s₃) ≡ 0
-  third-count = part_count 3024 (omega arith) ∙
-      zero_word 3024 (get_or-set_same (set (set (words l) 0 0) 1512 0) 3024 0 0 (omega (arith, length-words l, length-set (words l) 0 0, length-set (set (words l) 0 0) 1512 0)))
-
-  pub emptied : Emptied s₃
-  emptied =
-      let a = list_none (plan_part s₃) first_count in
-      let b = list_none (taken_part s₃) second-count in
-      let c = list_none (arranged_part s₃) third-count in
-      record {
-        order = ordered (record {
-          long = same ∙ long;
-          plan = record { long = length-take-le list_bytes s₃ (omega arith); count = omega (arith, first_count) };
-          taken = record { long = length-take-le list_bytes (drop list_bytes s₃) (omega (arith, length-drop list_bytes s₃)); count = omega (arith, second-count) };
-          arranged = record { long = length-take-le list_bytes (drop (2 * list_bytes) s₃) (omega (arith, length-drop (2 * list_bytes) s₃)); count = omega (arith, third-count) };
-          sorted = subst (λ (x : List Entry). Sorted (connections_in x)) (sym c) (ascend-sorted 0 [] tt);
-        });
-        none = λ i. record { plan = a i; taken = b i; arranged = c i };
-      }
+-- none of any bytes
+pub no_entries : (b : List ℕ) → entries_from b 0 0 ≡ []
+no_entries b = sym (none_of b 0)

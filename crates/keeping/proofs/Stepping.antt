@@ -1,13 +1,12 @@
 -- The step on one line, by what it asks for.
-use Prim.Native.Nat.{ℕ, ◌+◌, ◌*◌, ◌-◌, ◌/◌, ◌≤◌}
+use Prim.Native.Nat.{ℕ, ◌+◌, ◌*◌, ◌/◌, ◌≤◌}
 use mathlib.Core.Path.{◌≡◌, refl, sym, ap, subst, ◌∙◌}
 use mathlib.Core.Bool.{Bool, true, false, not}
-use mathlib.Core.List.{List, ◌++◌}
+use mathlib.Core.List.{List}
 use mathlib.Core.Option.{Option, none, some}
 use native.Mathlib.Omega.{arith}
 use lib.Dec.{eqb}
-use lib.ListN.{length, take, drop, length-drop}
-use lib.Seq.{length-take-le}
+use lib.ListN.{length, take, drop}
 use borrow.Author.Tests.{eq-eqb, ne_eqb}
 use Rattle.words.specs.Words.{words, Decides}
 use Rattle.regions.specs.Order.{Sorted}
@@ -31,27 +30,26 @@ use Rattle.reading.specs.Line.{Line, Asks, Take, Send, Part}
 use Rattle.asking.specs.Calls.{answer_buffer}
 use Rattle.printing.specs.Replies.{refusal_text, unreadable, listed, entry_texts, selection_text, reply_text}
 use Rattle.printing.specs.Given.{most_entries, Printed}
-use Rattle.keeping.specs.Lists.{count_in, list_in, list_bytes, plan_part, taken_part, arranged_part, kept_lists, Fits, Ordered, Holds}
-use Rattle.printing.specs.Kept.{chosen_or, entries_or}
-use Rattle.printing.specs.Answers.{part_text, Keeping}
-use Rattle.keeping.specs.Steps.{Stepped, Listable, KeptReply}
+use Rattle.printing.specs.Kept.{KeptLists, chosen_or, entries_or}
+use Rattle.printing.specs.Answers.{part_text, Answered, Keeping}
+use Rattle.keeping.specs.Steps.{Listable, KeptReply}
 use Rattle.printing.proofs.Printing.{reply-refused}
 use Rattle.printing.proofs.Lines.{keeps_unread}
 use Rattle.printing.proofs.Fitting.{leaves, leaves_is, reply-fits}
-use Rattle.keeping.proofs.Keeping.{order-of, entries_part, list-bytes, new_plan, new_taken, new_arranged, in_order, kept_is}
+use Rattle.keeping.proofs.Keeping.{entries_part}
 
 -- ---- steps that leave the lists
 
 module _ {o : Option Line} {b b' out out' : List ℕ} {r : ℕ} where
-  module _ {l : List ℕ} (w : Ordered l) where
-    pub step_keeps : {p : Option Line} → p ≡ o → Keeping p b b' out out' r → Stepped o l l b b' out out' r
-    step_keeps e d = subst (λ (x : Option Line). Stepped x l l b b' out out' r) e (record { order = w; answered = d.is (kept_lists l) })
+  module _ {k : KeptLists} where
+    pub step_keeps : {p : Option Line} → p ≡ o → Keeping p b b' out out' r → Answered o k k b b' out out' r
+    step_keeps e d = subst (λ (x : Option Line). Answered x k k b b' out out' r) e (d.is k)
 
-    pub step_unread : none ≡ o → b' ≡ b → Printed out out' (refusal_text unreadable) r → Stepped o l l b b' out out' r
+    pub step_unread : none ≡ o → b' ≡ b → Printed out out' (refusal_text unreadable) r → Answered o k k b b' out out' r
     step_unread e s t = step_keeps refl (keeps_unread e s t)
 
-  pub step_is : {p : Option Line} {l l' : List ℕ} → p ≡ o → Stepped p l l' b b' out out' r → Stepped o l l' b b' out out' r
-  step_is {p} {l} {l'} e d = subst (λ (x : Option Line). Stepped x l l' b b' out out' r) e d
+  pub step_is : {p : Option Line} {k k' : KeptLists} → p ≡ o → Answered p k k' b b' out out' r → Answered o k k' b b' out out' r
+  step_is {p} {k} {k'} e d = subst (λ (x : Option Line). Answered x k k' b b' out out' r) e d
 
 -- ---- replies that list entries
 
@@ -67,20 +65,20 @@ module _ {u : Buffer} {n : ℕ} where
 pub selection-fits : {u : Buffer} {p : Selection} {a : Result Selection Refusal} → a ≡ Ok p → Listable (planned_of a u) u → (p.chosen ≤ most_entries) × (entry_bytes * p.chosen ≤ length u)
 selection-fits {u} {p} {a} e f = fit_in (planned_of a u) (ap (λ (x : Result Selection Refusal). answer_bytes (planned_of x u)) e) f
 
-module _ {p out out' : List ℕ} {y : Reply} {r : ℕ} where
-  pub entries-refused : {n : ℕ} → Fits p → y ≡ Refused n → Printed out out' (refusal_text n) r → KeptReply p (entries_or (list_in p) y) out out' y r
-  entries-refused f e t = record { fits = f; list = sym (ap (entries_or (list_in p)) e); text = λ a. reply-refused (On a) e t }
+module _ (l : List Entry) {out out' : List ℕ} {y : Reply} {r : ℕ} where
+  pub entries-refused : {n : ℕ} → y ≡ Refused n → Printed out out' (refusal_text n) r → KeptReply l (entries_or l y) out out' y r
+  entries-refused e t = record { list = sym (ap (entries_or l) e); text = λ a. reply-refused (On a) e t }
 
-  pub selection-refused : {n : ℕ} → Fits p → y ≡ Refused n → Printed out out' (refusal_text n) r → KeptReply p (chosen_or (list_in p) y) out out' y r
-  selection-refused f e t = record { fits = f; list = sym (ap (chosen_or (list_in p)) e); text = λ a. reply-refused (On a) e t }
+  pub selection-refused : {n : ℕ} → y ≡ Refused n → Printed out out' (refusal_text n) r → KeptReply l (chosen_or l y) out out' y r
+  selection-refused e t = record { list = sym (ap (chosen_or l) e); text = λ a. reply-refused (On a) e t }
 
-  pub entries_kept : (l : List Entry) {m : List Entry} → Holds p m → y ≡ Entries m → Printed out out' (listed (entry_texts m)) r → KeptReply p (entries_or l y) out out' y r
+  pub entries_kept : {l' m : List Entry} → l' ≡ m → y ≡ Entries m → Printed out out' (listed (entry_texts m)) r → KeptReply l' (entries_or l y) out out' y r
   unfolding reply_text
-  entries_kept l h e t = record { fits = h.fits; list = h.list ∙ sym (ap (entries_or l) e); text = λ a. rw e t }
+  entries_kept h e t = record { list = h ∙ sym (ap (entries_or l) e); text = λ a. rw e t }
 
-  pub selection_kept : (l : List Entry) {m : List Entry} {k : ℕ} {x : Option ℕ} → Holds p m → y ≡ Chosen k m x → Printed out out' (selection_text k m x) r → KeptReply p (chosen_or l y) out out' y r
+  pub selection_kept : {l' m : List Entry} {k : ℕ} {x : Option ℕ} → l' ≡ m → y ≡ Chosen k m x → Printed out out' (selection_text k m x) r → KeptReply l' (chosen_or l y) out out' y r
   unfolding reply_text
-  selection_kept l h e t = record { fits = h.fits; list = h.list ∙ sym (ap (chosen_or l) e); text = λ a. rw e t }
+  selection_kept h e t = record { list = h ∙ sym (ap (chosen_or l) e); text = λ a. rw e t }
 
 -- a call's reply in its answer buffer
 pub listable : {a : Ask} {b : List ℕ} {e : Effect} → Does (On a) b e → length e.buffer ≡ 12000 → Listable e.reply e.buffer
@@ -93,7 +91,7 @@ unfolding perform
 sorted_if true n ws k u v s b l w = arrange-sorted ws k s.table
 sorted_if false n ws k u v s b l w = w
 
-still_sorted : (ws : List ℕ) (k : List Entry) {u : Buffer} {b : List ℕ} {e : Effect} → Does (On (Arrange ws k u)) b e → (l : List Entry) → Sorted (connections_in l)
+pub still_sorted : (ws : List ℕ) (k : List Entry) {u : Buffer} {b : List ℕ} {e : Effect} → Does (On (Arrange ws k u)) b e → (l : List Entry) → Sorted (connections_in l)
     → Sorted (connections_in (entries_or l e.reply))
 still_sorted ws k {u} {b} {e} d l w =
     let a = Arrange ws k u in
@@ -103,73 +101,67 @@ still_sorted ws k {u} {b} {e} d l w =
 
 -- ---- steps that change a list
 
-module _ {l b : List ℕ} {e : Effect} (o : Ordered l) {b' out out' : List ℕ} {r : ℕ} {p l' : List ℕ} where
-  pub step_planned : {a : Ask} → Does (On a) b e → b' ≡ e.store → KeptReply p (chosen_or (list_in (plan_part l)) e.reply) out out' e.reply r → l' ≡ p ++ drop list_bytes l
-      → Stepped (some (Asks (On a))) l l' b b' out out' r
-  step_planned {a} d s k f =
-      let w = order-of l o in
-      let t = new_plan l p w.long k.fits.long f in
-      record {
-        order = in_order t k.fits w.taken w.arranged w.sorted;
-        answered = record { is = record { carried = record { effect = e; does = d; store = s; text = k.text a }; kept = kept_is t k.list refl refl } };
-      }
+module _ (k : KeptLists) {b : List ℕ} {e : Effect} {b' out out' : List ℕ} {r : ℕ} {l : List Entry} where
+  pub step_planned : {a : Ask} → Does (On a) b e → b' ≡ e.store → KeptReply l (chosen_or k.plan e.reply) out out' e.reply r
+      → Answered (some (Asks (On a))) k (record { plan = l; taken = k.taken; arranged = k.arranged }) b b' out out' r
+  step_planned {a} d s f = record {
+    is = record {
+      carried = record { effect = e; does = d; store = s; text = f.text a };
+      kept = ap (λ (x : List Entry). record { plan = x; taken = k.taken; arranged = k.arranged }) f.list;
+    };
+  }
 
-  pub step_taken : (now : ℕ) → Does (On (Claim now (list_in (plan_part l)) answer_buffer)) b e → b' ≡ e.store → KeptReply p (entries_or (list_in (taken_part l)) e.reply) out out' e.reply r
-      → l' ≡ take list_bytes l ++ (p ++ drop list_bytes (drop list_bytes l)) → Stepped (some (Take now)) l l' b b' out out' r
-  step_taken now d s k f =
-      let w = order-of l o in
-      let t = new_taken l p w.long k.fits.long f in
-      record {
-        order = in_order t w.plan k.fits w.arranged w.sorted;
-        answered = record { is = record { carried = record { effect = e; does = d; store = s; text = k.text (Claim now (list_in (plan_part l)) answer_buffer) }; kept = kept_is t refl k.list refl } };
-      }
+  pub step_taken : (now : ℕ) → Does (On (Claim now k.plan answer_buffer)) b e → b' ≡ e.store → KeptReply l (entries_or k.taken e.reply) out out' e.reply r
+      → Answered (some (Take now)) k (record { plan = k.plan; taken = l; arranged = k.arranged }) b b' out out' r
+  step_taken now d s f = record {
+    is = record {
+      carried = record { effect = e; does = d; store = s; text = f.text (Claim now k.plan answer_buffer) };
+      kept = ap (λ (x : List Entry). record { plan = k.plan; taken = x; arranged = k.arranged }) f.list;
+    };
+  }
 
-  pub step_sent : (ws : List ℕ) → Does (On (Arrange ws (list_in (taken_part l)) answer_buffer)) b e → b' ≡ e.store → KeptReply p (entries_or (list_in (arranged_part l)) e.reply) out out' e.reply r
-      → l' ≡ take (2 * list_bytes) l ++ (p ++ drop list_bytes (drop (2 * list_bytes) l)) → Stepped (some (Send ws)) l l' b b' out out' r
-  step_sent ws d s k f =
-      let w = order-of l o in
-      let t = new_arranged l p w.long k.fits.long f in
-      let a : Sorted (connections_in (list_in p)) = subst (λ (x : List Entry). Sorted (connections_in x)) (sym k.list)
-      (still_sorted ws (list_in (taken_part l)) d (list_in (arranged_part l)) w.sorted) in
-      record {
-        order = in_order t w.plan w.taken k.fits a;
-        answered =
-            record { is = record { carried = record { effect = e; does = d; store = s; text = k.text (Arrange ws (list_in (taken_part l)) answer_buffer) }; kept = kept_is t refl refl k.list } };
-      }
+  pub step_sent : (ws : List ℕ) → Does (On (Arrange ws k.taken answer_buffer)) b e → b' ≡ e.store → KeptReply l (entries_or k.arranged e.reply) out out' e.reply r
+      → Answered (some (Send ws)) k (record { plan = k.plan; taken = k.taken; arranged = l }) b b' out out' r
+  step_sent ws d s f = record {
+    is = record {
+      carried = record { effect = e; does = d; store = s; text = f.text (Arrange ws k.taken answer_buffer) };
+      kept = ap (λ (x : List Entry). record { plan = k.plan; taken = k.taken; arranged = x }) f.list;
+    };
+  }
+
+-- what is arranged then ascends by connection
+pub sent_sorted : (ws : List ℕ) (k : List Entry) {u : Buffer} {b : List ℕ} {e : Effect} → Does (On (Arrange ws k u)) b e → {out out' : List ℕ} (m : List Entry) {m' : List Entry} {r : ℕ}
+    → KeptReply m' (entries_or m e.reply) out out' e.reply r → Sorted (connections_in m) → Sorted (connections_in m')
+sent_sorted ws k d m f w = subst (λ (x : List Entry). Sorted (connections_in x)) (sym f.list) (still_sorted ws k d m w)
 
 -- ---- one connection's part
 
-pub part_fits : (n : ℕ) {p v : List ℕ} {end first count : ℕ} → Fits p → end ≡ count_in p * entry_bytes + entry_bytes → v ≡ take (end - entry_bytes) (drop entry_bytes p)
-    → PartIs n (entries_in v) first count
+pub part_fits : {n : ℕ} (v : List ℕ) {first count : ℕ} → length v ≤ entry_bytes * most_entries → PartIs n (entries_in v) first count
     → (count ≤ most_entries) × (entry_bytes * (first + count) ≤ length v)
-part_fits n {p} {v} {end} f e c q =
-    let l : length v ≡ count_in p * entry_bytes = ap length c ∙ length-take-le (end - entry_bytes) (drop entry_bytes p) (omega (arith, e, f.long, f.count, length-drop entry_bytes p)) ∙
-    omega (arith, e) in
+part_fits v f q =
     let k = length-entries v in
-    (omega (arith, l, k, f.count, q.inside), omega (arith, l, k, q.inside))
+    (omega (arith, k, f, q.inside), omega (arith, k, q.inside))
 
-pub printed_part : (n : ℕ) (p : List ℕ) {v : List ℕ} {end first count : ℕ} → end ≡ count_in p * entry_bytes + entry_bytes → v ≡ take (end - entry_bytes) (drop entry_bytes p)
-    → Sorted (connections_in (list_in p))
+pub printed_part : (n : ℕ) (v : List ℕ) {l : List Entry} {first count : ℕ} → entries_in v ≡ l → Sorted (connections_in l)
     → PartIs n (entries_in v) first count → {out out' : List ℕ} {r : ℕ} → Printed out out' (listed (entry_texts (entries_from v first count))) r
-    → Printed out out' (listed (entry_texts (part_of n (list_in p)))) r
-printed_part n p {v} {end} {first} {count} e c s q {out} {out'} {r} t =
-    let g : entries_in v ≡ list_in p = ap entries_in c ∙ list-bytes p e in
+    → Printed out out' (listed (entry_texts (part_of n l))) r
+printed_part n v {l} {first} {count} g s q {out} {out'} {r} t =
     let a : take count (drop first (entries_in v)) ≡ part_of n (entries_in v) = q.arranged (subst (λ (x : List Entry). Sorted (connections_in x)) (sym g) s) in
     let z : 0 + first ≡ first = omega arith in
-    let h : entries_from v first count ≡ part_of n (list_in p) =
+    let h : entries_from v first count ≡ part_of n l =
     ap (λ (j : ℕ). entries_from v j count) (sym z) ∙ sym (entries_part v first count (length v / entry_bytes) 0 (omega (arith, q.inside, length-entries v))) ∙ a ∙ ap (part_of n) g in
     subst (λ (x : List Entry). Printed out out' (listed (entry_texts x)) r) h t
 
-module _ {l b out out' : List ℕ} {r n : ℕ} (w : Ordered l) where
-  step_part : (sound : Bool) → Decides sound (SoundStore b) → Printed out out' (part_text sound n (list_in (arranged_part l))) r → Stepped (some (Part n)) l l b b out out' r
-  step_part sound d t = record { order = w; answered = record { is = record { kept = refl; store = refl; sound = sound; tested = d; text = t } } }
+module _ {k : KeptLists} {b out out' : List ℕ} {r n : ℕ} where
+  step_part : (sound : Bool) → Decides sound (SoundStore b) → Printed out out' (part_text sound n k.arranged) r → Answered (some (Part n)) k k b b out out' r
+  step_part sound d t = record { is = record { kept = refl; store = refl; sound = sound; tested = d; text = t } }
 
-  pub part_unsound : (x : Bool) → Decides x (SoundStore b) → not x ≡ true → Printed out out' (refusal_text 3) r → Stepped (some (Part n)) l l b b out out' r
+  pub part_unsound : (x : Bool) → Decides x (SoundStore b) → not x ≡ true → Printed out out' (refusal_text 3) r → Answered (some (Part n)) k k b b out out' r
   part_unsound x d e t = step_part x d (rw e t)
 
-  pub part_unnamed : (x : Bool) → Decides x (SoundStore b) → not x ≡ false → n ≡ 0 → Printed out out' (refusal_text 4) r → Stepped (some (Part n)) l l b b out out' r
+  pub part_unnamed : (x : Bool) → Decides x (SoundStore b) → not x ≡ false → n ≡ 0 → Printed out out' (refusal_text 4) r → Answered (some (Part n)) k k b b out out' r
   part_unnamed x d e z t = step_part x d (rw (e, eq-eqb n 0 z) t)
 
-  pub part_named : (x : Bool) → Decides x (SoundStore b) → not x ≡ false → (n ≡ 0 → ⊥) → Printed out out' (listed (entry_texts (part_of n (list_in (arranged_part l))))) r
-      → Stepped (some (Part n)) l l b b out out' r
+  pub part_named : (x : Bool) → Decides x (SoundStore b) → not x ≡ false → (n ≡ 0 → ⊥) → Printed out out' (listed (entry_texts (part_of n k.arranged))) r
+      → Answered (some (Part n)) k k b b out out' r
   part_named x d e z t = step_part x d (rw (e, ne_eqb n 0 z) t)

@@ -3,54 +3,34 @@ ghost use Rattle.std.proofs.Math.Option.{some};
 ghost use Rattle.std.specs.Prelude.{◌+◌, ◌≤◌, length};
 ghost use Rattle.words.specs.Words.{words};
 ghost use Rattle.regions.specs.Order.{Sorted};
-ghost use Rattle.machine.specs.Call.{On, Arrange};
 ghost use Rattle.machine.specs.Claim.{part_of};
-ghost use Rattle.outcome.specs.Outcome.{LeavesWith};
-ghost use Rattle.public_plans.specs.Entries.{entries_of};
 ghost use Rattle.public_plans.specs.Parts.{connections_in};
 ghost use Rattle.machine.specs.Fields.{rest};
 ghost use Rattle.reading.specs.Line.{Send, Part};
 ghost use Rattle.reading.specs.Lists.{send_line};
 ghost use Rattle.printing.specs.Replies.{listed, entry_texts};
 ghost use Rattle.printing.specs.Given.{line_room, answer_room, Printed};
-ghost use Rattle.keeping.specs.Lists.{list_in, Fits, Ordered};
-ghost use Rattle.keeping.specs.Steps.{Stepped};
+ghost use Rattle.printing.specs.Answers.{Answered};
 
-use crate::kept::{ENTRY, LIST};
+use crate::kept::{EntryList, Lists};
 use outcome::Refusal;
 use printing::buffers::answer_buffer;
 use printing::numbers::{refusal, unreadable};
 
-// Arranges the entries of a list.
-fn arrange_list(
-    store: &[u8],
-    witnesses: &[u8],
-    list: &[u8],
-    answer: &mut [u8],
-) -> Result<u64, Refusal>
-    requires { Fits list.now }
-    ensures { LeavesWith (On (Arrange (words witnesses.now) (list_in list.now) answer.old)) store.now store.now
-        answer.new (entries_of result) }
-{
-    let end = crate::kept::list_end(list);
-    public_plans::arrangements::arrange(store, witnesses, &list[ENTRY..end], answer)
-}
-
 // Arranges what was taken, for the witness connections, of 8 bytes each.
-fn arrange_taken(store: &[u8], lists: &mut [u8], out: &mut [u8], witnesses: &[u8]) -> usize
-    requires { Ordered lists.old × (answer_room ≤ length out.old) }
-    ensures { Stepped (some (Send (words witnesses.now))) lists.old lists.new store.now store.now out.old
-        out.new result }
+fn arrange_taken(store: &[u8], lists: &mut Lists, out: &mut [u8], witnesses: &[u8]) -> usize
+    requires { answer_room ≤ length out.old }
+    ensures { Answered (some (Send (words witnesses.now))) lists.old lists.new store.now store.now out.old out.new result }
 {
     let mut answer = answer_buffer();
-    let a = arrange_list(store, witnesses, &lists[LIST..2 * LIST], &mut answer);
-    crate::kept::keep_entries(&mut lists[2 * LIST..3 * LIST], out, &answer, a)
+    let a = public_plans::arrangements::arrange(store, witnesses, lists.taken.bytes(), &mut answer);
+    lists.arranged.keep_entries(out, &answer, a)
 }
 
 // The step on a line whose witness connections stand behind the comma at index e.
-pub fn answer_send(store: &[u8], lists: &mut [u8], line: &[u8], out: &mut [u8], e: usize) -> usize
-    requires { Ordered lists.old × (answer_room ≤ length out.old) × (length line.now ≤ line_room) }
-    ensures { Stepped (send_line (rest line.now (e + 1))) lists.old lists.new store.now store.now out.old out.new result }
+pub fn answer_send(store: &[u8], lists: &mut Lists, line: &[u8], out: &mut [u8], e: usize) -> usize
+    requires { (answer_room ≤ length out.old) × (length line.now ≤ line_room) }
+    ensures { Answered (send_line (rest line.now (e + 1))) lists.old lists.new store.now store.now out.old out.new result }
 {
     let mut witnesses = inventory::numbers::number_buffer();
     let Some(n) = inventory::numbers::read_list(line, e, &mut witnesses) else {
@@ -61,19 +41,18 @@ pub fn answer_send(store: &[u8], lists: &mut [u8], line: &[u8], out: &mut [u8], 
 }
 
 // One connection's part of an arranged list.
-fn put_part(out: &mut [u8], list: &[u8], connection: u64) -> usize
-    requires { Fits list.now × Sorted (connections_in (list_in list.now)) × (answer_room ≤ length out.old) }
-    ensures { Printed out.old out.new (listed (entry_texts (part_of connection (list_in list.now)))) result }
+fn put_part(out: &mut [u8], list: &EntryList, connection: u64) -> usize
+    requires { Sorted (connections_in list.now) × (answer_room ≤ length out.old) }
+    ensures { Printed out.old out.new (listed (entry_texts (part_of connection list.now))) result }
 {
-    let end = crate::kept::list_end(list);
-    let entries = &list[ENTRY..end];
+    let entries = list.bytes();
     let p = public_plans::arrangements::part(entries, connection);
     printing::entries::put_entries(out, entries, p.first, p.count)
 }
 
-pub fn answer_part(store: &[u8], lists: &[u8], out: &mut [u8], connection: u64) -> usize
-    requires { Ordered lists.now × (answer_room ≤ length out.old) }
-    ensures { Stepped (some (Part connection)) lists.now lists.now store.now store.now out.old out.new result }
+pub fn answer_part(store: &[u8], lists: &Lists, out: &mut [u8], connection: u64) -> usize
+    requires { answer_room ≤ length out.old }
+    ensures { Answered (some (Part connection)) lists.now lists.now store.now store.now out.old out.new result }
 {
     if !sound::sound(store) {
         return refusal(out, Refusal::NotSound);
@@ -81,5 +60,5 @@ pub fn answer_part(store: &[u8], lists: &[u8], out: &mut [u8], connection: u64) 
     if connection == 0 {
         return refusal(out, Refusal::NoConnection);
     }
-    put_part(out, &lists[2 * LIST..3 * LIST], connection)
+    put_part(out, &lists.arranged, connection)
 }

@@ -5,72 +5,52 @@ use Rattle.keeping.proofs.Stepping.{step_unread, step_keeps, step_is}
 use Rattle.answering.proofs.answers.answer_line.Goals as goal
 
 pub unreadable-requires : goal.unreadable-requires
-unreadable-requires c = c.requires.1
+unreadable-requires c = c.requires.0
 
 pub answer_open-requires : goal.answer_open-requires
-answer_open-requires c = (
-  c.requires.0,
-  c.requires.1,
-)
+answer_open-requires c = c.requires.0
 
 pub answer_sum-requires : goal.answer_sum-requires
-answer_sum-requires c = c.requires.1
+answer_sum-requires c = c.requires.0
 
 pub answer_leaving-requires : goal.answer_leaving-requires
-answer_leaving-requires c = c.requires.1
+answer_leaving-requires c = c.requires.0
 
 pub answer_offers-requires : goal.answer_offers-requires
 answer_offers-requires c =
-    (c.requires.1, c.requires.2)
+    c.requires
 
 pub answer_plan-requires : goal.answer_plan-requires
-answer_plan-requires c = (
-  c.requires.0,
-  c.requires.1,
-)
+answer_plan-requires c = c.requires.0
 
 pub answer_want-requires : goal.answer_want-requires
-answer_want-requires c = (
-  c.requires.0,
-  c.requires.1,
-  c.requires.2,
-)
+answer_want-requires c = c.requires
 
 pub answer_missing-requires : goal.answer_missing-requires
 answer_missing-requires c =
-    (c.requires.1, c.requires.2)
+    c.requires
 
 pub answer_take-requires : goal.answer_take-requires
-answer_take-requires c = (
-  c.requires.0,
-  c.requires.1,
-)
+answer_take-requires c = c.requires.0
 
 pub answer_send-requires : goal.answer_send-requires
-answer_send-requires c = (
-  c.requires.0,
-  c.requires.1,
-  c.requires.2,
-)
+answer_send-requires c = c.requires
 
 pub answer_part-requires : goal.answer_part-requires
-answer_part-requires c = (
-  c.requires.0,
-  c.requires.1,
-)
+answer_part-requires c = c.requires.0
 
 pub answer_number-requires : goal.answer_number-requires
-answer_number-requires c = c.requires.1
+answer_number-requires c = c.requires.0
 
 pub answer_keys-requires : goal.answer_keys-requires
-answer_keys-requires c = c.requires.1
+answer_keys-requires c = c.requires.0
 
 pub answer_hashes-requires : goal.answer_hashes-requires
 answer_hashes-requires c =
-    (c.requires.1, c.requires.2)
+    c.requires
 
 pub returns-in_default : goal.returns-in_default
-returns-in_default c = step_unread c.requires.0 (sym (ap (asked_in _) c.in_default.is) ∙ c.call_of.ensures) refl c.unreadable.ensures
+returns-in_default c = step_unread (sym (ap (asked_in _) c.in_default.is) ∙ c.call_of.ensures) refl c.unreadable.ensures
 
 pub returns-in-Opening : goal.returns-in-Opening
 returns-in-Opening c = step_is (sym (ap (asked_line _) c.in-Opening.is) ∙
@@ -78,17 +58,15 @@ returns-in-Opening c = step_is (sym (ap (asked_line _) c.in-Opening.is) ∙
     c.answer_open.ensures
 
 pub returns-in-Summing : goal.returns-in-Summing
-returns-in-Summing c = step_keeps c.requires.0 (sym (ap (asked_line _)
+returns-in-Summing c = step_keeps (sym (ap (asked_line _)
     c.in-Summing.is) ∙ c.in-Some.ensures) c.answer_sum.ensures
 
 pub returns-in-Leaving : goal.returns-in-Leaving
-returns-in-Leaving c = step_keeps c.requires.0
-    (sym (ap (asked_line _) c.in-Leaving.is) ∙
+returns-in-Leaving c = step_keeps (sym (ap (asked_line _) c.in-Leaving.is) ∙
     c.in-Some.ensures) c.answer_leaving.ensures
 
 pub returns-in-Offers : goal.returns-in-Offers
-returns-in-Offers c = step_keeps c.requires.0
-    (sym (ap (asked_line _) c.in-Offers.is) ∙
+returns-in-Offers c = step_keeps (sym (ap (asked_line _) c.in-Offers.is) ∙
     c.in-Some.ensures) c.answer_offers.ensures
 
 pub returns-in-Planning : goal.returns-in-Planning
@@ -102,8 +80,7 @@ returns-in-Wanting c = step_is (sym (ap (asked_line _) c.in-Wanting.is) ∙
     c.answer_want.ensures
 
 pub returns-in-Missing : goal.returns-in-Missing
-returns-in-Missing c = step_keeps c.requires.0
-    (sym (ap (asked_line _) c.in-Missing.is) ∙
+returns-in-Missing c = step_keeps (sym (ap (asked_line _) c.in-Missing.is) ∙
     c.in-Some.ensures) c.answer_missing.ensures
 
 pub returns-in-Taking : goal.returns-in-Taking
@@ -120,16 +97,13 @@ returns-in-Parting c = step_is (sym (ap (asked_line _) c.in-Parting.is) ∙
     c.in-Some.ensures) c.answer_part.ensures
 
 pub returns-in-Number : goal.returns-in-Number
-returns-in-Number c = step_keeps c.requires.0
-    (sym (ap (asked_line _) c.in-Number.is) ∙
+returns-in-Number c = step_keeps (sym (ap (asked_line _) c.in-Number.is) ∙
     c.in-Some.ensures) c.answer_number.ensures
 
 pub returns-in-Keys : goal.returns-in-Keys
-returns-in-Keys c = step_keeps c.requires.0
-    (sym (ap (asked_line _) c.in-Keys.is) ∙
+returns-in-Keys c = step_keeps (sym (ap (asked_line _) c.in-Keys.is) ∙
     c.in-Some.ensures) c.answer_keys.ensures
 
 pub returns-in-Hashes : goal.returns-in-Hashes
-returns-in-Hashes c = step_keeps c.requires.0
-    (sym (ap (asked_line _) c.in-Hashes.is) ∙
+returns-in-Hashes c = step_keeps (sym (ap (asked_line _) c.in-Hashes.is) ∙
     c.in-Some.ensures) c.answer_hashes.ensures

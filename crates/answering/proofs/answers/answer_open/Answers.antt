@@ -2,27 +2,14 @@
 use mathlib.Core.Path.{refl, ap}
 use native.Mathlib.Omega.{arith}
 use Rattle.outcome.specs.Reply.{reply_of}
-use Rattle.keeping.proofs.Keeping.{order-of}
 use Rattle.answering.proofs.Opening.{step_refused, step_opened}
 use Rattle.answering.proofs.answers.answer_open.Goals as goal
 
-pub empty-requires : goal.empty-requires
-empty-requires c =
-    (order-of c.args.lists.now c.requires.0).long
-
 pub put_bytes-requires : goal.put_bytes-requires
-put_bytes-requires c = omega (arith, c.requires.1)
+put_bytes-requires c = omega (arith, c.requires)
 
 pub returns-in-Err : goal.returns-in-Err
-returns-in-Err c = step_refused c.args.l
-    c.args.q
-    c.«open».ensures refl
-    c.requires.0
-    (ap reply_of c.in-Err.is) c.refusal.ensures
+returns-in-Err c = step_refused c.args.l c.args.q c.«open».ensures refl (ap reply_of c.in-Err.is) c.refusal.ensures
 
 pub returns-in-Ok : goal.returns-in-Ok
-returns-in-Ok c = step_opened c.args.l
-    c.args.q
-    c.«open».ensures refl
-    c.empty.ensures (ap reply_of c.in-Ok.is)
-    c.put_bytes.ensures
+returns-in-Ok c = step_opened c.args.l c.args.q c.«open».ensures refl c.none.ensures (ap reply_of c.in-Ok.is) c.put_bytes.ensures

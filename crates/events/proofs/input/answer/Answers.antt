@@ -8,23 +8,23 @@ use Rattle.events.proofs.input.answer.Goals as goal
 pub bounds-out-n : goal.bounds-out-n
 bounds-out-n _ c = omega (
   arith,
-  c.requires.1,
-  room_of c.print-n.ensures.answered,
+  c.requires.0,
+  room_of c.print-n.ensures,
   c.print-n.auto,
 )
 
 pub overflow_add-end : goal.overflow_add-end
 overflow_add-end _ c = omega (
   arith,
-  c.requires.1,
-  room_of c.print-n.ensures.answered,
+  c.requires.0,
+  room_of c.print-n.ensures,
 )
 
 pub slice_bounds-write_all-end : goal.slice_bounds-write_all-end
 slice_bounds-write_all-end _ c = simp length-set (omega (
   arith,
-  c.requires.1,
-  room_of c.print-n.ensures.answered,
+  c.requires.0,
+  room_of c.print-n.ensures,
   c.print-n.auto,
 ))
 
@@ -32,8 +32,8 @@ pub slice_bounds-write_all-end-2 : goal.slice_bounds-write_all-end-2
 slice_bounds-write_all-end-2 _ c = simp (length-take, length-set)
     (omega (
       arith,
-      c.requires.1,
-      room_of c.print-n.ensures.answered,
+      c.requires.0,
+      room_of c.print-n.ensures,
       c.print-n.auto,
     ))
 
@@ -41,8 +41,8 @@ pub returns : goal.returns
 returns _ c = fed c.print-n.ensures
     (omega (
       arith,
-      c.requires.1,
+      c.requires.0,
       room_of
-          c.print-n.ensures.answered,
+          c.print-n.ensures,
       c.print-n.auto,
     )) (omega arith)

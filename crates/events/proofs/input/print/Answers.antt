@@ -7,4 +7,4 @@ pub returns-in-Whole : goal.returns-in-Whole
 returns-in-Whole c = rw c.in-Whole.is c.answer_line.ensures
 
 pub returns-in-TooLong : goal.returns-in-TooLong
-returns-in-TooLong c = rw c.in-TooLong.is (step_unread c.requires.0 refl refl c.unreadable.ensures)
+returns-in-TooLong c = rw c.in-TooLong.is (step_unread refl refl c.unreadable.ensures)

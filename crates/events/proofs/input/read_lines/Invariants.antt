@@ -1,11 +1,10 @@
 -- `events::input::read_lines` meets its contract. The loop's invariant: what the program keeps is some bytes, read from the start.
 use mathlib.Core.Path.{◌≡◌}
 use lib.ListN.{length}
-use Rattle.keeping.specs.Lists.{Ordered}
 use Rattle.events.specs.Input.{started, TookSome}
 use Rattle.events.proofs.input.read_lines.Given as goal
 
 abbrev pub invariant-loop : goal.invariant-loop
 invariant-loop _ l =
-    (length l.store ≡ length l.initial.store) × (length l.lists ≡ length l.initial.lists) × (length l.line ≡ length l.initial.line) × (length l.out ≡ length l.initial.out) × Ordered l.lists
+    (length l.store ≡ length l.initial.store) × (length l.line ≡ length l.initial.line) × (length l.out ≡ length l.initial.out)
     × TookSome (started l.initial.store) l.kept l.line l.store l.lists

@@ -2,12 +2,11 @@
 use Prim.Native.Nat.{◌≤◌}
 use mathlib.Core.Path.{◌≡◌}
 use lib.ListN.{length, take}
-use Rattle.keeping.specs.Lists.{Ordered}
 use Rattle.events.specs.Input.{Reading, Held, TookAll}
 use Rattle.events.proofs.input.take_all.Given as goal
 
 abbrev pub invariant-loop-b : goal.invariant-loop-b
 invariant-loop-b _ l =
-    (length l.store ≡ length l.initial.store) × (length l.lists ≡ length l.initial.lists) × (length l.line ≡ length l.initial.line) × (length l.out ≡ length l.initial.out) × Ordered l.lists
+    (length l.store ≡ length l.initial.store) × (length l.line ≡ length l.initial.line) × (length l.out ≡ length l.initial.out)
     × (l.b-index ≤ length l.bytes)
     × ((p : Reading) → Held l.initial.now l.initial.line l.initial.store l.initial.lists p → TookAll p (take l.b-index l.bytes) l.now l.line l.store l.lists)

@@ -7,10 +7,10 @@ use Rattle.keeping.proofs.Stepping.{step_unread, step_is}
 use Rattle.keeping.proofs.arranging.answer_send.Goals as goal
 
 pub read_list-requires : goal.read_list-requires
-read_list-requires c = (c.requires.2, omega (arith, c.number_buffer-witnesses.ensures))
+read_list-requires c = (c.requires.1, omega (arith, c.number_buffer-witnesses.ensures))
 
 pub returns-in_default : goal.returns-in_default
-returns-in_default c = step_unread c.requires.0 (no-numbers
+returns-in_default c = step_unread (no-numbers
     c.read_list.ensures c.in_default.is) refl c.unreadable.ensures
 
 pub overflow_mul-m : goal.overflow_mul-m

@@ -9,11 +9,10 @@ use Rattle.keeping.proofs.Stepping.{step_unread, step_is}
 use Rattle.keeping.proofs.plans.answer_want.Goals as goal
 
 pub read_list-requires : goal.read_list-requires
-read_list-requires c = (c.requires.2, omega (arith, c.key_buffer-keys.ensures))
+read_list-requires c = (c.requires.1, omega (arith, c.key_buffer-keys.ensures))
 
 pub returns-in_default : goal.returns-in_default
-returns-in_default c = step_unread c.requires.0
-    (no_keys c.read_list.ensures c.in_default.is
+returns-in_default c = step_unread (no_keys c.read_list.ensures c.in_default.is
     (want_ask (values_of c.args.v))) refl c.unreadable.ensures
 
 pub overflow_mul-m : goal.overflow_mul-m

@@ -1,0 +1,11 @@
+-- `keeping::kept::Lists::none` meets its contract: none ascend.
+use mathlib.Core.Path.{sym, subst}
+use mathlib.Core.List.{List, []}
+use Rattle.machine.specs.State.{Entry}
+use Rattle.regions.specs.Order.{Sorted}
+use Rattle.store.proofs.Bounds.{ascend-sorted}
+use Rattle.public_plans.specs.Parts.{connections_in}
+use Rattle.keeping.proofs.kept.Lists.none.Goals as goal
+
+pub invariant_of-result : goal.invariant_of-result
+invariant_of-result c = subst (λ (x : List Entry). Sorted (connections_in x)) (sym c.none-3.ensures) (ascend-sorted 0 [] tt)
