@@ -1,3 +1,4 @@
+pub mod Filled
 pub mod Openings
 pub mod Worded
 pub mod Worked

@@ -1,13 +1,9 @@
 // What lines ask for.
-//
-// Functions of a form and a variant (`leave_call`, `plan_line`, ..) are alike by two lines. One for all would take the form, the variant and, for the contract, what
-// the definition makes of the values: three parameters for two lines, at each of its calls.
 ghost use Rattle.std.specs.Prelude.{◌≡◌, ◌+◌};
 ghost use Rattle.std.proofs.Math.Option.{some};
 ghost use Rattle.machine.specs.Fields.{rest, ending};
 ghost use Rattle.machine.specs.Call.{On, Sum};
-ghost use Rattle.asking.specs.Calls.{open_of, number_form, number_call, keys_form, keys_call, leave_call, inventory_call, hashes_form, hashes_call};
-ghost use Rattle.asking.specs.Calls.{plan_line, want_line, take_line, missing_line, part_line, line_with, line_of};
+ghost use Rattle.asking.specs.Calls.{open_of, number_form, keys_form, hashes_form, line_with, line_of};
 ghost use Rattle.reading.specs.Line.{Asks};
 ghost use Rattle.reading.specs.Given.{FormRead, WholeRead};
 ghost use Rattle.asking.specs.Given.{asked_in};
@@ -80,13 +76,6 @@ fn number_values(line: &[u8], e: usize, w: NumberWord) -> Option<Values>
     }
 }
 
-fn number_call(line: &[u8], e: usize, w: NumberWord) -> Option<Asked>
-    ensures { asked_in line.now result ≡ number_call w (rest line.now (e + 1)) }
-{
-    let v = number_values(line, e, w)?;
-    Some(Asked::Number(w, v))
-}
-
 fn keys_values(line: &[u8], e: usize, w: KeysWord) -> Option<Values>
     ensures { WholeRead line.now e (keys_form w) result }
 {
@@ -95,27 +84,6 @@ fn keys_values(line: &[u8], e: usize, w: KeysWord) -> Option<Values>
         KeysWord::FailedWithParents => read_whole(line, e, b"kcn"),
         KeysWord::ReleasePackage => read_whole(line, e, b"chn"),
     }
-}
-
-fn keys_call(line: &[u8], e: usize, w: KeysWord) -> Option<Asked>
-    ensures { asked_in line.now result ≡ keys_call w (rest line.now (e + 1)) }
-{
-    let v = keys_values(line, e, w)?;
-    Some(Asked::Keys(w, v))
-}
-
-fn leave_call(line: &[u8], e: usize) -> Option<Asked>
-    ensures { asked_in line.now result ≡ leave_call (rest line.now (e + 1)) }
-{
-    let v = read_whole(line, e, b"cn")?;
-    Some(Asked::Leaving(v))
-}
-
-fn inventory_call(line: &[u8], e: usize) -> Option<Asked>
-    ensures { asked_in line.now result ≡ inventory_call (rest line.now (e + 1)) }
-{
-    let taken = read_form(line, e, b"cnps")?;
-    Some(Asked::Offers(taken.value, taken.end))
 }
 
 fn hashes_values(line: &[u8], e: usize, w: HashesWord) -> Option<Parsed<Values>>
@@ -131,48 +99,6 @@ fn hashes_values(line: &[u8], e: usize, w: HashesWord) -> Option<Parsed<Values>>
     }
 }
 
-fn hashes_call(line: &[u8], e: usize, w: HashesWord) -> Option<Asked>
-    ensures { asked_in line.now result ≡ hashes_call w (rest line.now (e + 1)) }
-{
-    let taken = hashes_values(line, e, w)?;
-    Some(Asked::Hashes(w, taken.value, taken.end))
-}
-
-fn plan_line(line: &[u8], e: usize) -> Option<Asked>
-    ensures { asked_in line.now result ≡ plan_line (rest line.now (e + 1)) }
-{
-    let v = read_whole(line, e, b"n")?;
-    Some(Asked::Planning(v))
-}
-
-fn want_line(line: &[u8], e: usize) -> Option<Asked>
-    ensures { asked_in line.now result ≡ want_line (rest line.now (e + 1)) }
-{
-    let taken = read_form(line, e, b"n")?;
-    Some(Asked::Wanting(taken.value, taken.end))
-}
-
-fn take_line(line: &[u8], e: usize) -> Option<Asked>
-    ensures { asked_in line.now result ≡ take_line (rest line.now (e + 1)) }
-{
-    let v = read_whole(line, e, b"n")?;
-    Some(Asked::Taking(v))
-}
-
-fn missing_line(line: &[u8], e: usize) -> Option<Asked>
-    ensures { asked_in line.now result ≡ missing_line (rest line.now (e + 1)) }
-{
-    let taken = read_form(line, e, b"cn")?;
-    Some(Asked::Missing(taken.value, taken.end))
-}
-
-fn part_line(line: &[u8], e: usize) -> Option<Asked>
-    ensures { asked_in line.now result ≡ part_line (rest line.now (e + 1)) }
-{
-    let v = read_whole(line, e, b"c")?;
-    Some(Asked::Parting(v))
-}
-
 // The line of a word, whose fields stand behind the comma at index e.
 fn call_with(line: &[u8], e: usize, w: Word) -> Option<Asked>
     ensures { asked_in line.now result ≡ line_with w (rest line.now (e + 1)) }
@@ -180,17 +106,17 @@ fn call_with(line: &[u8], e: usize, w: Word) -> Option<Asked>
     match w {
         Word::Open => opening(line, e),
         Word::Sum => summing(line, e),
-        Word::Leave => leave_call(line, e),
-        Word::Inventory => inventory_call(line, e),
-        Word::Plan => plan_line(line, e),
-        Word::Want => want_line(line, e),
-        Word::Take => take_line(line, e),
-        Word::Missing => missing_line(line, e),
+        Word::Leave => read_whole(line, e, b"cn").map(Asked::Leaving),
+        Word::Inventory => read_form(line, e, b"cnps").map(|t| Asked::Offers(t.value, t.end)),
+        Word::Plan => read_whole(line, e, b"n").map(Asked::Planning),
+        Word::Want => read_form(line, e, b"n").map(|t| Asked::Wanting(t.value, t.end)),
+        Word::Take => read_whole(line, e, b"n").map(Asked::Taking),
+        Word::Missing => read_form(line, e, b"cn").map(|t| Asked::Missing(t.value, t.end)),
         Word::Send => Some(Asked::Sending(e)),
-        Word::Part => part_line(line, e),
-        Word::Number(x) => number_call(line, e, x),
-        Word::Keys(x) => keys_call(line, e, x),
-        Word::Hashes(x) => hashes_call(line, e, x),
+        Word::Part => read_whole(line, e, b"c").map(Asked::Parting),
+        Word::Number(x) => number_values(line, e, x).map(|v| Asked::Number(x, v)),
+        Word::Keys(x) => keys_values(line, e, x).map(|v| Asked::Keys(x, v)),
+        Word::Hashes(x) => hashes_values(line, e, x).map(|t| Asked::Hashes(x, t.value, t.end)),
     }
 }
 
