@@ -58,12 +58,7 @@ fn fits(c: Candidate, key: regions::Key) -> bool
 }
 
 // The candidates that come next, of a request with this key: their connections are put behind n others. None if they are more than eight then.
-pub fn gather(
-    lines: &mut Lines,
-    key: regions::Key,
-    n: usize,
-    room: &mut Room,
-) -> Option<Gathered>
+pub fn gather(lines: &mut Lines, key: regions::Key, n: usize, room: &mut Room) -> Option<Gathered>
     requires { n ≤ most_gathered }
     ensures same { lines.new.text ≡ lines.old.text }
     ensures gathers { Gathers lines.old.text.now lines.old.at (key_in key) n room.old.conns.now room.new.conns.now result lines.new.at }

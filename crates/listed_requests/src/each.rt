@@ -39,13 +39,7 @@ fn place_of(info: bool, packed: bool) -> u64
 }
 
 // The next request: what is known behind it, if it passes.
-fn advance(
-    lines: &mut Lines,
-    p: Pass,
-    limit: u64,
-    places: u64,
-    room: &mut Room,
-) -> Option<Pass>
+fn advance(lines: &mut Lines, p: Pass, limit: u64, places: u64, room: &mut Room) -> Option<Pass>
     requires { (lines.old.at < length lines.old.text.now) × Within limit places p }
     ensures same { lines.new.text ≡ lines.old.text }
     ensures step { Stepped lines.old.text.now lines.old.at limit places p result lines.new.at }

@@ -33,13 +33,7 @@ pub struct Scan {
 
 // Selects what is to be chosen for the hash whose rows stand there, if nobody owns it, and remembers its row as the n-th. Answers how many are
 // remembered now.
-fn select_within(
-    s: &mut [u8],
-    clock: Clock,
-    h: HashRows,
-    picks: &mut [usize],
-    n: usize,
-) -> usize
+fn select_within(s: &mut [u8], clock: Clock, h: HashRows, picks: &mut [usize], n: usize) -> usize
     requires { Kept s.old × (h.txid.to ≤ rows_in s.old) × (h.wtxid.to ≤ rows_in s.old) × (n < length picks.old) }
     ensures { OneSelected s.old s.new picks.old picks.new clock.time h.txid h.wtxid n result }
 {
