@@ -11,8 +11,7 @@ ghost use Rattle.regions.specs.Rows.{quad_number};
 ghost use Rattle.apart.specs.Apart.{slot_bytes, kept_at, with_notes, dying, Room, Loaded, HeadIn, SoughtIn, Altered, NoteAt, NoteIn, Forgotten, SpotIn};
 
 use crate::SLOT;
-use machine::limits::MAX_PARENTS;
-use places::{DEAD, PARENTS, PLACE};
+use places::{DEAD, PLACE, SPARE};
 
 // A place that is not dead: its number, the word of its stage (any bytes may have one that names no stage), and how many parents it has.
 #[derive(Clone, Copy)]
@@ -28,9 +27,6 @@ pub struct Note {
     pub low: u64,
     pub high: u64,
 }
-
-// Where the notes of a place stand in it: behind its parents, of four words each.
-const KEPT: usize = PARENTS + 4 * MAX_PARENTS;
 
 // Copies the i-th place of a region.
 fn copy_out(region: &[u8], i: usize, slot: &mut [u8; SLOT])
@@ -85,7 +81,7 @@ fn write_note(region: &mut [u8], i: usize, x: Note)
     requires { 8 * (place_size * (i + 1)) ≤ length region.old }
     ensures { words region.new ≡ splice (words region.old) (place_size * i + kept_at) (x.low ∷ x.high ∷ []) }
 {
-    let a = i * PLACE + KEPT;
+    let a = i * PLACE + SPARE;
     words::put(region, a, x.low);
     words::put(region, a + 1, x.high);
 }
@@ -108,7 +104,7 @@ fn read_note(region: &[u8], i: usize) -> Note
     requires { 8 * (place_size * (i + 1)) ≤ length region.now }
     ensures { NoteAt (words region.now) i result }
 {
-    let a = i * PLACE + KEPT;
+    let a = i * PLACE + SPARE;
     Note {
         low: words::get(region, a),
         high: words::get(region, a + 1),

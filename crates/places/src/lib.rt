@@ -29,6 +29,9 @@ pub const WTXIDS: usize = 11;
 
 pub const PARENTS: usize = 411;
 
+// Words that are zero at rest.
+pub const SPARE: usize = 811;
+
 // What the stage of a place can be: a place that is to go, which stands in no sound store; the flag; an Awaiting and an Enqueued package.
 pub const DEAD: u64 = 0;
 

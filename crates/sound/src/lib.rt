@@ -10,7 +10,7 @@ use machine::limits::{MAX_ALTERNATES, MAX_ANNOUNCEMENTS, MAX_PLACES};
 use places::PLACE;
 use regions::listed::Records;
 use regions::{CONN, Conn, ROW, Row};
-use store::head::HEAD;
+use store::head::{self, HEAD};
 
 mod owner; // owner.rt: the owner of a place
 mod place; // place.rt: package places
@@ -24,6 +24,18 @@ ghost use Rattle.store.specs.Image.{head_size, SoundStore};
 ghost use Rattle.sound.specs.Whole.{PollPlain, CursorPlain, SizesPlain, HeadPlain, RecordsSound};
 
 use place::{places_fit, same_hash};
+
+// Words of the header that are none of its sizes and counts: the format, the next poll and the two cursors, each a tag and what it goes with
+// (crates/cursors, which stands on no other test, has the same), and the first of those that are zero.
+const FORMAT: usize = 0;
+
+const POLL: usize = 6;
+
+const KNOWN: usize = 8;
+
+const READY: usize = 13;
+
+const SPARE: usize = 18;
 
 // ---- the header (its tags as numbers: the bytes may hold any, and the test is which of them name a case)
 
@@ -56,16 +68,16 @@ fn sizes_fit(s: &[u8]) -> bool
     requires { 8 * head_size ≤ length s.now }
     ensures { Decides result (SizesPlain (words s.now)) }
 {
-    let l = words::get(s, 1);
-    let q = words::get(s, 2);
-    words::get(s, 0) == 1
+    let l = head::limit(s);
+    let q = head::places(s);
+    words::get(s, FORMAT) == 1
         && l != 0
-        && l <= MAX_ANNOUNCEMENTS
+        && l as u64 <= MAX_ANNOUNCEMENTS
         && q != 0
-        && q <= MAX_PLACES
-        && words::get(s, 3) <= l
-        && words::get(s, 4) <= l
-        && words::get(s, 5) <= q
+        && q as u64 <= MAX_PLACES
+        && head::rows(s) <= l
+        && head::conns(s) <= l
+        && head::held_places(s) <= q
 }
 
 fn head_fits(s: &[u8]) -> bool
@@ -75,16 +87,16 @@ fn head_fits(s: &[u8]) -> bool
     if !sizes_fit(s) {
         return false;
     }
-    if !poll_fits(words::get(s, 6), words::get(s, 7)) {
+    if !poll_fits(words::get(s, POLL), words::get(s, POLL + 1)) {
         return false;
     }
-    if !cursor_fits(words::get(s, 8), regions::read_quad(s, 9)) {
+    if !cursor_fits(words::get(s, KNOWN), regions::read_quad(s, KNOWN + 1)) {
         return false;
     }
-    if !cursor_fits(words::get(s, 13), regions::read_quad(s, 14)) {
+    if !cursor_fits(words::get(s, READY), regions::read_quad(s, READY + 1)) {
         return false;
     }
-    words::is_zero(s, 18, HEAD)
+    words::is_zero(s, SPARE, HEAD)
 }
 
 // ---- the regions
@@ -126,21 +138,21 @@ pub fn sound(s: &[u8]) -> bool
     if !head_fits(s) {
         return false;
     }
-    let l = words::get(s, 1) as usize;
-    let q = words::get(s, 2) as usize;
+    let l = head::limit(s);
+    let q = head::places(s);
     let x = HEAD + l * ROW;
     let y = x + l * CONN;
     let z = y + q * PLACE;
     if s.len() < z * 8 {
         return false;
     }
-    let n = words::get(s, 3) as usize;
-    let c = words::get(s, 4) as usize;
-    let p = words::get(s, 5) as usize;
+    let n = head::rows(s);
+    let c = head::conns(s);
+    let p = head::held_places(s);
     let a = x * 8;
     let b = y * 8;
     let e = z * 8;
-    let rows = Records::<Row>::new(&s[192..a], n);
+    let rows = Records::<Row>::new(&s[HEAD * 8..a], n);
     let conns = Records::<Conn>::new(&s[a..b], c);
     records_fit(rows, conns, &s[b..e], p)
 }

@@ -11,14 +11,10 @@ ghost use Rattle.sound_rows.specs.Rows.{RowsSound};
 ghost use Rattle.sound.specs.Places.{PlaceSound, PlacesSound, PlaceFollows, hashes_in, Padded, StagePlain, fold_of, slot_count, slot_of};
 
 use crate::owner::{is_owned, walk_to};
-use places::{COMBINED, PARENT_COUNT, PARENTS, PLACE, STAGE, WTXID_COUNT, WTXIDS};
+use machine::limits::{MAX_PARENTS, MAX_WTXIDS};
+use places::{COMBINED, DEAD, ENQUEUED, FLAG, PARENT_COUNT, PARENTS, PLACE, SPARE, STAGE, WTXID_COUNT, WTXIDS};
 use regions::Row;
 use regions::listed::Records;
-
-const KEPT: usize = 811;
-
-// Wtxids of a package at most, and parents of a request.
-const LIST: u64 = 100;
 
 // Slots in which `distinct` marks hashes, and a factor that spreads these.
 const SLOTS: u64 = 4096;
@@ -85,7 +81,7 @@ fn distinct(s: &[u8], a: usize, n: usize, slots: &mut [u16], mark: u16) -> bool
 fn stage_fits(stage: u64, combined: regions::Quad, n: u64) -> bool
     ensures { Decides result (StagePlain stage (quad_number combined) n) }
 {
-    if stage == 1 {
+    if stage == FLAG {
         if n != 0 {
             return false;
         }
@@ -97,16 +93,16 @@ fn stage_fits(stage: u64, combined: regions::Quad, n: u64) -> bool
         };
         return same_hash(combined, zero);
     }
-    if stage == 0 {
+    if stage == DEAD {
         return false;
     }
-    if stage > 3 {
+    if stage > ENQUEUED {
         return false;
     }
     if n == 0 {
         return false;
     }
-    n <= LIST
+    n <= MAX_WTXIDS as u64
 }
 
 // Whether there are zeros behind m wtxids and n parents.
@@ -117,18 +113,17 @@ fn padded(p: &[u8], m: usize, n: usize) -> bool
     if !words::is_zero(p, WTXIDS + m * 4, PARENTS) {
         return false;
     }
-    if !words::is_zero(p, PARENTS + n * 4, KEPT) {
+    if !words::is_zero(p, PARENTS + n * 4, SPARE) {
         return false;
     }
-    words::is_zero(p, KEPT, PLACE)
+    words::is_zero(p, SPARE, PLACE)
 }
 
 // Whether the words of one place write it out, and it is fit. The rows of its key are guessed to begin at the i-th.
-fn place_fits(p: &[u8], rows: Records<Row>, slots: &mut [u16], mark: u16, i: usize) -> bool
-    requires { (length p.now ≡ 8 * place_size) × (length slots.old ≡ slot_count) }
-    ensures { (RowsSound (recs row_size read_row rows.entry.count (words rows.entry.bytes.now))
-        → Decides result (PlaceSound (recs row_size read_row rows.entry.count (words rows.entry.bytes.now)) (words p.now)))
-        × (length slots.new ≡ slot_count) }
+fn place_fits(p: &[u8], rows: Records<Row>, slots: &mut [u16; 4096], mark: u16, i: usize) -> bool
+    requires { length p.now ≡ 8 * place_size }
+    ensures { RowsSound (recs row_size read_row rows.entry.count (words rows.entry.bytes.now))
+        → Decides result (PlaceSound (recs row_size read_row rows.entry.count (words rows.entry.bytes.now)) (words p.now)) }
 {
     let stage = words::get(p, STAGE);
     let combined = regions::read_quad(p, COMBINED);
@@ -137,7 +132,7 @@ fn place_fits(p: &[u8], rows: Records<Row>, slots: &mut [u16], mark: u16, i: usi
         return false;
     }
     let parents = words::get(p, PARENT_COUNT);
-    if parents > LIST {
+    if parents > MAX_PARENTS as u64 {
         return false;
     }
     if !padded(p, wtxids as usize, parents as usize) {
@@ -170,7 +165,7 @@ pub fn places_fit(s: &[u8], q: usize, rows: Records<Row>) -> bool
     ensures { RowsSound (recs row_size read_row rows.entry.count (words rows.entry.bytes.now))
         → Decides result (PlacesSound (recs row_size read_row rows.entry.count (words rows.entry.bytes.now)) q (words s.now)) }
 {
-    let mut slots: [u16; 4096] = [0; 4096];
+    let mut slots = [0; 4096];
     let mut at = 0;
     for i in 0..q {
         let a = i * PLACE;

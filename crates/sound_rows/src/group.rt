@@ -1,11 +1,11 @@
 // The test of the rows of one hash over both kinds: few, no connection twice, one owner at most.
-ghost use Rattle.std.specs.Prelude.{◌≡◌, ◌+◌, ◌≤◌, ◌<◌, true, length};
+ghost use Rattle.std.specs.Prelude.{◌≡◌, ◌+◌, ◌≤◌, ◌<◌, true};
 ghost use Rattle.words.specs.Words.{words, recs, Decides};
 ghost use Rattle.regions.specs.Rows.{row_size, read_row, quad_number};
 ghost use Rattle.store.specs.FlatSound.{count_rows, hash_at, owns};
 ghost use Rattle.sound_rows.specs.Rows.{RowsSound};
 ghost use Rattle.sound_rows.specs.Parts.{rows_of};
-ghost use Rattle.sound_rows.specs.Groups.{row_at, Least, Run, Apart, Once, conn_slots, Marking, GroupFits, GroupsSound};
+ghost use Rattle.sound_rows.specs.Groups.{row_at, Least, Run, Apart, Once, Marking, GroupFits, GroupsSound};
 
 use crate::part::Part;
 use regions::listed::Records;
@@ -13,7 +13,7 @@ use regions::{Key, Quad, Row};
 use std::ops::Bound;
 
 // Slots in which the connections of a hash are marked.
-const SLOTS: u64 = 1024;
+const SLOTS: usize = 1024;
 
 // The hash of the i-th row.
 fn hash_at(rows: Records<Row>, i: usize) -> Quad
@@ -87,13 +87,12 @@ pub fn owners(part: Part) -> u64
 
 // Marks the slots of the rows' connections, the last first, and whether no slot had the mark already. If none had, the connections are
 // distinct, and not among those that were marked before. (A loop: each turn changes the slots that the next one reads.)
-fn mark_conns(part: Part, slots: &mut [u64], mark: u64) -> bool
-    requires { length slots.old ≡ conn_slots }
-    ensures { Marking result (words part.entry.rows.bytes.now) part.entry.from part.entry.to mark slots.old slots.new × (length slots.new ≡ conn_slots) }
+fn mark_conns(part: Part, slots: &mut [u64; SLOTS], mark: u64) -> bool
+    ensures { Marking result (words part.entry.rows.bytes.now) part.entry.from part.entry.to mark slots.old slots.new }
 {
     for k in (part.from..part.to).rev() {
         let r = part.rows.get(k);
-        let x = (r.conn % SLOTS) as usize;
+        let x = r.conn as usize % SLOTS;
         if slots[x] == mark {
             return false;
         }
@@ -103,17 +102,15 @@ fn mark_conns(part: Part, slots: &mut [u64], mark: u64) -> bool
 }
 
 // Whether marks show that the rows a and b are of distinct connections. (They do not always where it is so.)
-fn marked_once(a: Part, b: Part, slots: &mut [u64], mark: u64) -> bool
-    requires { length slots.old ≡ conn_slots }
-    ensures { (result ≡ true → Once (rows_of a.entry) (rows_of b.entry)) × (length slots.new ≡ conn_slots) }
+fn marked_once(a: Part, b: Part, slots: &mut [u64; SLOTS], mark: u64) -> bool
+    ensures { result ≡ true → Once (rows_of a.entry) (rows_of b.entry) }
 {
     mark_conns(b, slots, mark) && mark_conns(a, slots, mark)
 }
 
 // Whether the rows a and b are of distinct connections. The mark should be new to the slots, else all are compared.
-fn conns_once(a: Part, b: Part, slots: &mut [u64], mark: u64) -> bool
-    requires { length slots.old ≡ conn_slots }
-    ensures { Decides result (Once (rows_of a.entry) (rows_of b.entry)) × (length slots.new ≡ conn_slots) }
+fn conns_once(a: Part, b: Part, slots: &mut [u64; SLOTS], mark: u64) -> bool
+    ensures { Decides result (Once (rows_of a.entry) (rows_of b.entry)) }
 {
     if marked_once(a, b, slots, mark) {
         return true;
@@ -125,9 +122,8 @@ fn conns_once(a: Part, b: Part, slots: &mut [u64], mark: u64) -> bool
 }
 
 // Whether the rows a and b, which are those of one hash, are `most` at most, of distinct connections, and have one owner at most.
-fn group_fits(a: Part, b: Part, most: usize, slots: &mut [u64], mark: u64) -> bool
-    requires { length slots.old ≡ conn_slots }
-    ensures { Decides result (GroupFits most (rows_of a.entry) (rows_of b.entry)) × (length slots.new ≡ conn_slots) }
+fn group_fits(a: Part, b: Part, most: usize, slots: &mut [u64; SLOTS], mark: u64) -> bool
+    ensures { Decides result (GroupFits most (rows_of a.entry) (rows_of b.entry)) }
 {
     if a.to - a.from + (b.to - b.from) > most {
         return false;
@@ -156,7 +152,7 @@ pub fn groups_fit(rows: Records<Row>, most: usize) -> bool
     };
     let n = rows.count;
     let m = regions::seek_row(rows.bytes, n, Bound::Included(first));
-    let mut slots: [u64; 1024] = [0; 1024];
+    let mut slots = [0; SLOTS];
     let mut i = 0;
     let mut j = m;
     // a merge of two runs, a hash at a time: no one index counts

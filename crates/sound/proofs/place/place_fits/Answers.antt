@@ -20,15 +20,13 @@ returns-then-not-stage_fits c =
     (words c.args.rows.bytes.now) in
     let l : length v ≡ place_size = omega (arith, length-words c.args.p.now) in
     let b = below_words c.args.p.now
-    (below_bytes c.args.p.now c.type_inv.p) in (
-      (λ _. refuse_stage rs v l b c.get-stage.ensures c.read_quad-combined.ensures c.get-wtxids.ensures
-          (failed (StagePlain c.get-stage.result (quad_number c.read_quad-combined.result) c.get-wtxids.result)
-          c.stage_fits.result c.if-not-stage_fits.true-raw c.stage_fits.ensures)),
-      c.requires.1,
-    )
+    (below_bytes c.args.p.now c.type_inv.p) in
+    λ _. refuse_stage rs v l b c.get-stage.ensures c.read_quad-combined.ensures c.get-wtxids.ensures
+    (failed (StagePlain c.get-stage.result (quad_number c.read_quad-combined.result) c.get-wtxids.result)
+    c.stage_fits.result c.if-not-stage_fits.true-raw c.stage_fits.ensures)
 
-pub returns-then-parents-gt-LIST : goal.returns-then-parents-gt-LIST
-returns-then-parents-gt-LIST c =
+pub returns-then-parents-gt-MAX_PARENTS : goal.returns-then-parents-gt-MAX_PARENTS
+returns-then-parents-gt-MAX_PARENTS c =
     let v = words c.args.p.now in
     let rs = recs row_size read_row c.args.rows.count
     (words c.args.rows.bytes.now) in
@@ -36,7 +34,7 @@ returns-then-parents-gt-LIST c =
     let b = below_words c.args.p.now
     (below_bytes c.args.p.now
     c.type_inv.p) in
-    ((λ _. refuse_parents rs v l b c.get-parents.ensures (omega arith)), c.requires.1)
+    λ _. refuse_parents rs v l b c.get-parents.ensures (omega arith)
 
 pub padded-requires : goal.padded-requires
 padded-requires c = (
@@ -56,11 +54,9 @@ returns-then-not-padded c =
     let l : length v ≡ place_size = omega (arith, length-words c.args.p.now) in
     let b = below_words c.args.p.now
     (below_bytes c.args.p.now
-    c.type_inv.p) in (
-      (λ _. refuse_padded rs v l b c.get-wtxids.ensures c.get-parents.ensures (failed (Padded v
-          c.get-wtxids.result c.get-parents.result) c.padded.result c.if-not-padded.true-raw c.padded.ensures)),
-      c.requires.1,
-    )
+    c.type_inv.p) in
+    λ _. refuse_padded rs v l b c.get-wtxids.ensures c.get-parents.ensures (failed (Padded v
+    c.get-wtxids.result c.get-parents.result) c.padded.result c.if-not-padded.true-raw c.padded.ensures)
 
 pub returns-then-not-distinct : goal.returns-then-not-distinct
 returns-then-not-distinct c =
@@ -71,12 +67,10 @@ returns-then-not-distinct c =
     omega (arith, length-words c.args.p.now) in
     let b = below_words c.args.p.now
     (below_bytes c.args.p.now
-    c.type_inv.p) in (
-      (λ _. refuse_repeat rs v l b c.get-parents.ensures
-          (failed (NoRepeat (hashes_in v 411 0 c.get-parents.result)) c.distinct.result c.if-not-distinct.true-raw
-          c.distinct.ensures.0)),
-      c.distinct.ensures.1,
-    )
+    c.type_inv.p) in
+    λ _. refuse_repeat rs v l b c.get-parents.ensures
+    (failed (NoRepeat (hashes_in v 411 0 c.get-parents.result)) c.distinct.result c.if-not-distinct.true-raw
+    c.distinct.ensures.0)
 
 pub returns : goal.returns
 returns c =
@@ -90,21 +84,19 @@ returns c =
     ) in
     let b = below_words c.args.p.now
     (below_bytes c.args.p.now
-    c.type_inv.p) in (
-      (λ s. decide-owned rs v l b c.is_owned.result c.get-stage.ensures
-          c.read_quad-combined.ensures
-          c.get-wtxids.ensures
-          c.get-parents.ensures c.read_quad.ensures
-          (passed (StagePlain c.get-stage.result
-          (quad_number c.read_quad-combined.result)
-          c.get-wtxids.result)
-          c.stage_fits.result
-          c.if-not-stage_fits.false-raw
-          c.stage_fits.ensures) (omega arith)
-          (passed (Padded v c.get-wtxids.result
-          c.get-parents.result) c.padded.result
-          c.if-not-padded.false-raw c.padded.ensures)
-          (passed (NoRepeat (hashes_in v 411 0 c.get-parents.result))
-          c.distinct.result c.if-not-distinct.false-raw c.distinct.ensures.0) (c.is_owned.ensures s)),
-      c.distinct.ensures.1,
-    )
+    c.type_inv.p) in
+    λ s. decide-owned rs v l b c.is_owned.result c.get-stage.ensures
+    c.read_quad-combined.ensures
+    c.get-wtxids.ensures
+    c.get-parents.ensures c.read_quad.ensures
+    (passed (StagePlain c.get-stage.result
+    (quad_number c.read_quad-combined.result)
+    c.get-wtxids.result)
+    c.stage_fits.result
+    c.if-not-stage_fits.false-raw
+    c.stage_fits.ensures) (omega arith)
+    (passed (Padded v c.get-wtxids.result
+    c.get-parents.result) c.padded.result
+    c.if-not-padded.false-raw c.padded.ensures)
+    (passed (NoRepeat (hashes_in v 411 0 c.get-parents.result))
+    c.distinct.result c.if-not-distinct.false-raw c.distinct.ensures.0) (c.is_owned.ensures s)

@@ -23,7 +23,7 @@ returns-then-not-place_fits c =
     λ r z. let d : Decides c.place_fits.result (PlaceSound rs (place_at w c.loop-i.i)) =
     rw (place-lent c.args.s.now
     c.loop-i.i
-    (omega arith)) at (c.place_fits.ensures.0 r) in
+    (omega arith)) at (c.place_fits.ensures r) in
     failed (PlaceSound rs (place_at w c.loop-i.i)) c.place_fits.result c.if-not-place_fits.true-raw d
     (place_of rs c.args.q w h z
     c.loop-i.i (omega arith))
@@ -46,19 +46,18 @@ loop-i-preserved c =
     (words c.args.rows.bytes.now) in
     let h : place_size * c.args.q ≤ length w =
     omega (arith, length-words c.args.s.now) in (
-      c.place_fits.ensures.1,
       search rules,
       (λ r. let d : Decides c.place_fits.result (PlaceSound rs (place_at w
           c.loop-i.i)) =
           rw (place-lent c.args.s.now
           c.loop-i.i (omega arith)) at
-          (c.place_fits.ensures.0 r) in below_more (λ k. PlaceSound
+          (c.place_fits.ensures r) in below_more (λ k. PlaceSound
           rs (place_at w k)) c.loop-i.i
-          (c.loop-i.invariant.2 r)
+          (c.loop-i.invariant.1 r)
           (passed (PlaceSound rs (place_at w c.loop-i.i)) c.place_fits.result
           c.if-not-place_fits.false-raw d)),
       below_more (λ k. PlaceFollows w k) c.loop-i.i
-          c.loop-i.invariant.3 (passed (PlaceFollows w
+          c.loop-i.invariant.2 (passed (PlaceFollows w
           c.loop-i.i)
           c.place_follows.result c.if-not-place_follows.false-raw c.place_follows.ensures),
     )
@@ -69,4 +68,4 @@ returns c =
     let rs = recs row_size read_row c.args.rows.count (words c.args.rows.bytes.now) in
     let h : place_size * c.args.q ≤ length w = omega (arith, length-words c.args.s.now) in
     let e : c.loop-i.i ≡ c.args.q = omega arith in
-    λ r. places_made rs c.args.q w h (λ k l. c.loop-i.invariant.2 r k (omega arith)) (λ k l. c.loop-i.invariant.3 k (omega arith))
+    λ r. places_made rs c.args.q w h (λ k l. c.loop-i.invariant.1 r k (omega arith)) (λ k l. c.loop-i.invariant.2 k (omega arith))

@@ -9,17 +9,13 @@ use Rattle.sound_rows.proofs.group.conns_once.Goals as goal
 
 pub returns-then-not-apart : goal.returns-then-not-apart
 returns-then-not-apart c =
-    let x = c.args in (
-      (λ o. failed (Apart (rows_of x.b) (rows_of x.a)) c.apart.result c.if-not-apart.true-raw c.apart.ensures o.0),
-      c.marked_once.ensures.1,
-    )
+    let x = c.args in
+    λ o. failed (Apart (rows_of x.b) (rows_of x.a)) c.apart.result c.if-not-apart.true-raw c.apart.ensures o.0
 
 pub returns : goal.returns
 returns c =
     let x = c.args in
     let p = passed (Apart (rows_of x.b) (rows_of x.a)) c.apart.result c.if-not-apart.false-raw c.apart.ensures in
     let d : Decides c.apart-2.result (Apart [] (rows_of x.b)) =
-    rw (c.new.ensures.0, c.new.ensures.1, c.new.ensures.2, in_none (words x.b.rows.bytes.now) x.b.to x.b.to (le_refl _)) at c.apart-2.ensures in (
-      decides_iff {P = Apart [] (rows_of x.b)} c.apart-2.result (record { to = λ q. (p, q); from = λ o. o.1 }) d,
-      c.marked_once.ensures.1,
-    )
+    rw (c.new.ensures.0, c.new.ensures.1, c.new.ensures.2, in_none (words x.b.rows.bytes.now) x.b.to x.b.to (le_refl _)) at c.apart-2.ensures in
+    decides_iff {P = Apart [] (rows_of x.b)} c.apart-2.result (record { to = λ q. (p, q); from = λ o. o.1 }) d

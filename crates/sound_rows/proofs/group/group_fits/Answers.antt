@@ -16,16 +16,14 @@ length-rows : (p : Part) → length (rows_of p) ≡ p.to - p.from
 length-rows p = length-recs row_size read_row (p.to - p.from) (drop (row_size * p.from) (words p.rows.bytes.now))
 
 pub returns-then-a-b : goal.returns-then-a-b
-returns-then-a-b c = ((λ g. omega (arith, g.few, length-rows c.args.a, length-rows c.args.b)), c.requires)
+returns-then-a-b c = λ g. omega (arith, g.few, length-rows c.args.a, length-rows c.args.b)
 
 pub returns-then-not-conns_once : goal.returns-then-not-conns_once
 returns-then-not-conns_once c =
     let x = c.args in
     let a = rows_of x.a in
-    let b = rows_of x.b in (
-      (λ g. failed (Once a b) c.conns_once.result c.if-not-conns_once.true-raw c.conns_once.ensures.0 ((apart_iff a b).from g.once)),
-      c.conns_once.ensures.1,
-    )
+    let b = rows_of x.b in
+    λ g. failed (Once a b) c.conns_once.result c.if-not-conns_once.true-raw c.conns_once.ensures ((apart_iff a b).from g.once)
 
 pub returns : goal.returns
 returns c =
@@ -35,7 +33,5 @@ returns c =
     let la : length a ≡ x.a.to - x.a.from = length-rows x.a in
     let lb : length b ≡ x.b.to - x.b.from = length-rows x.b in
     let few : length a + length b ≤ x.most = omega arith in
-    let o = passed (Once a b) c.conns_once.result c.if-not-conns_once.false-raw c.conns_once.ensures.0 in (
-      group_decides a b c.owners.result c.owners-2.result few o.0 o.1 c.owners.ensures.0 c.owners-2.ensures.0,
-      c.conns_once.ensures.1,
-    )
+    let o = passed (Once a b) c.conns_once.result c.if-not-conns_once.false-raw c.conns_once.ensures in
+    group_decides a b c.owners.result c.owners-2.result few o.0 o.1 c.owners.ensures.0 c.owners-2.ensures.0

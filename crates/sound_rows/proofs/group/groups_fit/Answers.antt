@@ -12,7 +12,6 @@ use Rattle.sound_rows.proofs.group.groups_fit.Goals as goal
 
 pub loop-i-init : goal.loop-i-init
 loop-i-init c = (
-  length-replicate {A = ℕ} conn_slots 0,
   omega arith,
   search rules,
   omega (arith, c.seek_row-m.ensures.most),
@@ -33,8 +32,8 @@ returns-then-not-group_fits c =
     let right : Run w j n h b = rw (c.new-in-loop-i.ensures.0, c.new-in-loop-i.ensures.1, c.new-in-loop-i.ensures.2) at c.run_end-b.ensures in
     let G = GroupFits c.args.most (rows_in w i a) (rows_in w j b) in
     let fits : Decides c.group_fits.result G = rw (c.new-txid.ensures.0, c.new-txid.ensures.1, c.new-txid.ensures.2, c.new-wtxid.ensures.0, c.new-wtxid.ensures.1, c.new-wtxid.ensures.2)
-    at c.group_fits.ensures.0 in
-    λ s. off_stop (c.loop-i.invariant.4 s)
+    at c.group_fits.ensures in
+    λ s. off_stop (c.loop-i.invariant.3 s)
     (group_off w i m j n h a b (omega arith) (omega arith) (txid_level n w s m c.seek_row-m.ensures) (wtxid_level n w s m c.seek_row-m.ensures) c.least_hash-h.ensures left right)
     (failed G c.group_fits.result c.if-not-group_fits.true-raw fits)
 
@@ -66,12 +65,11 @@ loop-i-preserved c =
     let right : Run w j n h b = rw (c.new-in-loop-i.ensures.0, c.new-in-loop-i.ensures.1, c.new-in-loop-i.ensures.2) at c.run_end-b.ensures in
     let G = GroupFits c.args.most (rows_in w i a) (rows_in w j b) in
     let fits : Decides c.group_fits.result G = rw (c.new-txid.ensures.0, c.new-txid.ensures.1, c.new-txid.ensures.2, c.new-wtxid.ensures.0, c.new-wtxid.ensures.1, c.new-wtxid.ensures.2)
-    at c.group_fits.ensures.0 in (
-      c.group_fits.ensures.1,
+    at c.group_fits.ensures in (
       omega (arith, left.least, left.most),
       omega (arith, right.least, right.most),
       omega (arith, right.least, right.most),
-      λ s. off_turn (c.loop-i.invariant.4 s)
+      λ s. off_turn (c.loop-i.invariant.3 s)
           (group_off w i m j n h a b (omega arith) (omega arith) (txid_level n w s m c.seek_row-m.ensures) (wtxid_level n w s m c.seek_row-m.ensures) c.least_hash-h.ensures left right)
           (passed G c.group_fits.result c.if-not-group_fits.false-raw fits),
     )
@@ -80,4 +78,4 @@ pub returns : goal.returns
 returns c =
     let w = words c.args.rows.bytes.now in
     let m = c.seek_row-m.result in
-    λ s. groups_end w c.loop-i.i m c.loop-i.j c.args.rows.count (omega arith) (omega arith) (c.loop-i.invariant.4 s)
+    λ s. groups_end w c.loop-i.i m c.loop-i.j c.args.rows.count (omega arith) (omega arith) (c.loop-i.invariant.3 s)

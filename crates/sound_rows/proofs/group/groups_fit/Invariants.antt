@@ -10,7 +10,7 @@ use Rattle.sound_rows.proofs.Decide.{Iff}
 use Rattle.sound_rows.proofs.group.groups_fit.Given as goal
 
 abbrev pub invariant-loop-i : goal.invariant-loop-i
-invariant-loop-i l = (length l.slots ≡ conn_slots) × (l.i ≤ l.m) × (l.m ≤ l.j) × (l.j ≤ l.rows.count)
+invariant-loop-i l = (l.i ≤ l.m) × (l.m ≤ l.j) × (l.j ≤ l.rows.count)
     × (RowsSound (recs row_size read_row l.rows.count (words l.rows.bytes.now)) → Iff (GroupsSound l.most (recs row_size read_row l.rows.count (words l.rows.bytes.now)))
     (GroupsSound l.most (rows_in (words l.rows.bytes.now) l.i l.m ++ rows_in (words l.rows.bytes.now) l.j l.rows.count)))
 

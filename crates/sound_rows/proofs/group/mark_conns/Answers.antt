@@ -8,7 +8,7 @@ use Rattle.sound_rows.proofs.group.mark_conns.Goals as goal
 pub loop-k-init : goal.loop-k-init
 loop-k-init c =
     let a = c.args in
-    (omega arith, omega arith, c.requires, marks_none (words a.part.rows.bytes.now) a.part.to a.mark a.slots.now)
+    (omega arith, omega arith, marks_none (words a.part.rows.bytes.now) a.part.to a.mark a.slots.now)
 
 pub loop-k-preserved : goal.loop-k-preserved
 loop-k-preserved c =
@@ -16,12 +16,11 @@ loop-k-preserved c =
     let l = c.loop-k in (
       omega arith,
       omega arith,
-      length-set l.slots _ _ ∙ l.invariant.2,
       marks_turn (words a.part.rows.bytes.now) l.k a.part.to a.mark a.slots.now l.slots c.get-r.result (omega arith) l.invariant.1
-          c.get-r.ensures.words_are refl (omega (arith, l.invariant.2)) c.if-slots-x.false l.invariant.3,
+          c.get-r.ensures.words_are refl (omega arith) c.if-slots-x.false l.invariant.2,
     )
 
 pub returns : goal.returns
 returns c =
     let e : c.loop-k.k ≡ c.args.part.from = omega arith in
-    ((λ others m. let d = (rw e at c.loop-k.invariant.3) others m in (d.0, d.2)), c.loop-k.invariant.2)
+    λ others m. let d = (rw e at c.loop-k.invariant.2) others m in (d.0, d.2)

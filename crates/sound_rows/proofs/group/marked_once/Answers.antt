@@ -8,8 +8,8 @@ use Rattle.sound_rows.proofs.group.marked_once.Goals as goal
 pub returns-then-mark_conns : goal.returns-then-mark_conns
 returns-then-mark_conns c =
     let a = c.args in
-    let d = (rw c.if-mark_conns.true at c.mark_conns.ensures.0) [] (marked-nil a.mark a.slots.now) in
-    ((λ f. (((rw f at c.mark_conns-then-mark_conns.ensures.0) (rows_of a.b) d.1).0, d.0)), c.mark_conns-then-mark_conns.ensures.1)
+    let d = (rw c.if-mark_conns.true at c.mark_conns.ensures) [] (marked-nil a.mark a.slots.now) in
+    λ f. (((rw f at c.mark_conns-then-mark_conns.ensures) (rows_of a.b) d.1).0, d.0)
 
 pub returns-else-mark_conns : goal.returns-else-mark_conns
-returns-else-mark_conns c = ((λ e. never (sym c.if-mark_conns.false ∙ e)), c.mark_conns.ensures.1)
+returns-else-mark_conns c = λ e. never (sym c.if-mark_conns.false ∙ e)
