@@ -72,7 +72,7 @@ pub fn read_list(line: &[u8], e: usize, items: &mut [u8], priorities: &mut [u8])
     ensures { OffersGiven line.now e items.new priorities.new result }
 {
     let count = number_at(line, e)?;
-    if 13_107 < count.value {
+    if (OFFERS as u64) < count.value {
         return None;
     }
     let n = count.value as usize;

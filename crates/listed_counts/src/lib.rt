@@ -9,8 +9,8 @@ ghost use Rattle.heavy.specs.Counters.{sum};
 ghost use Rattle.listed_counts.specs.Passes.{Adds, Notes, Counts, NotesAll, CountsAll, Verdict, LightRead};
 
 use heavy::Counters;
+use lent_lists::LIST;
 use listed_lines::cursor::{Lines, Lists};
-use listed_lines::hash_lists::ROOM;
 use listed_lines::line::Line;
 use machine::limits::{MAX_PEER_ANNOUNCEMENTS, MAX_PEER_IN_FLIGHT};
 
@@ -122,8 +122,8 @@ fn none_often<N: Counted, const K: usize>(lines: Lines, most: u64, lists: &mut L
 pub fn light(lines: Lines) -> bool
     ensures { LightRead lines.entry.text.now lines.entry.at result }
 {
-    let mut wtxids = [0; ROOM];
-    let mut parents = [0; ROOM];
+    let mut wtxids = [0; LIST];
+    let mut parents = [0; LIST];
     let mut lists = Lists {
         wtxids: &mut wtxids,
         parents: &mut parents,

@@ -4,14 +4,10 @@ ghost use Rattle.machine.specs.Fields.{rest};
 ghost use Rattle.machine.specs.Listing.{short, list_then};
 ghost use Rattle.listed_lines.specs.Given.{Took, longest_list, list_room, list_at};
 
-use ident::HASH_BYTES;
 use machine::limits::MAX_PARENTS;
 use reading::fields::{Parsed, number_at};
 use reading::hashes::ListedHash;
 use reading::list::read_all;
-
-// Room for the longest list, of a request's parents or of a package's wtxids.
-pub const ROOM: usize = MAX_PARENTS * HASH_BYTES;
 
 // The list behind the comma at index e: its length, at least `least` and at most 100, and so many hashes. Answers how many.
 pub fn list_at(line: &[u8], e: usize, least: u64, hashes: &mut [u8]) -> Option<Parsed<usize>>

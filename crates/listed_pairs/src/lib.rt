@@ -7,8 +7,8 @@ ghost use Rattle.std.specs.Prelude.{◌≡◌, ◌<◌, ◌≤◌, length};
 ghost use Rattle.regions.specs.Rows.{quad_number};
 ghost use Rattle.listed_pairs.specs.Given.{WtxidLine, FirstWtxid, Skips, Below, PassesBelow, SideBySide, Compared, PairsFit};
 
+use lent_lists::LIST;
 use listed_lines::cursor::{Lines, Lists};
-use listed_lines::hash_lists::ROOM;
 use listed_lines::line::{Line, Request};
 use listed_requests::candidates::{Room, gather};
 use listed_requests::distinct::all_distinct;
@@ -143,8 +143,8 @@ fn compare(front: &mut Lines, back: &mut Lines, room: &mut Room) -> Pair
 pub fn pairs_fit(lines: Lines) -> bool
     ensures { PairsFit lines.entry.text.now lines.entry.at result }
 {
-    let mut wtxids = [0; ROOM];
-    let mut parents = [0; ROOM];
+    let mut wtxids = [0; LIST];
+    let mut parents = [0; LIST];
     let mut conns = [0; MAX_ALTERNATES];
     let mut lists = Lists {
         wtxids: &mut wtxids,

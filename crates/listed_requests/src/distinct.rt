@@ -1,4 +1,6 @@
 // Numbers and hashes compared with one another: whether one occurs among others, whether none comes twice.
+//
+// Those before an index are a slice that ends there: `all` over the indices would take a closure with a contract of its own, longer than the loop.
 ghost use Rattle.std.specs.Prelude.{◌≡◌, ◌*◌, ◌≤◌, length, take};
 ghost use Rattle.ident.specs.Words.{hash_bytes};
 ghost use Rattle.machine.specs.Claim.{elem};

@@ -8,9 +8,9 @@ ghost use Rattle.listed_requests.specs.Given.{lowest_of, place_for, Within, Step
 use crate::candidates::Room;
 use crate::forms::next_request;
 use crate::lawful::judge;
+use lent_lists::LIST;
 use listed_form::comes_before;
 use listed_lines::cursor::{Lines, Lists};
-use listed_lines::hash_lists::ROOM;
 use machine::limits::MAX_ALTERNATES;
 
 // The key of the last request, if there was one; announcements and places that are held up to it.
@@ -66,8 +66,8 @@ pub fn each_fits(mut lines: Lines, limit: u64, places: u64) -> bool
     requires { (limit ≤ max_announcements) × (places ≤ max_places) }
     ensures { EachFits lines.entry.text.now lines.entry.at limit places result }
 {
-    let mut wtxids = [0; ROOM];
-    let mut parents = [0; ROOM];
+    let mut wtxids = [0; LIST];
+    let mut parents = [0; LIST];
     let mut conns = [0; MAX_ALTERNATES];
     let mut room = Room {
         lists: Lists {

@@ -11,10 +11,10 @@ use Rattle.inventory.proofs.offers.read_list.Goals as goal
 pub returns-in_err-count : goal.returns-in_err-count
 returns-in_err-count c = rw c.from_residual.ensures (no-offers (no-count offer_then c.number_at.ensures (ap number_at c.in_err-count.was)))
 
-pub returns-then-count-gt13107 : goal.returns-then-count-gt13107
-returns-then-count-gt13107 c =
+pub returns-then-count : goal.returns-then-count
+returns-then-count c =
     no-offers (too_long offer_then c.number_at.ensures (ap number_at c.in_ok-count.was) offer-takes
-    (omega (arith, c.requires.0, c.if-count-gt13107.true)))
+    (omega (arith, c.requires.0, c.if-count.true)))
 
 pub returns-in_err-end : goal.returns-in_err-end
 returns-in_err-end c =
@@ -30,7 +30,7 @@ returns-then-end-line c =
 
 pub returns : goal.returns
 returns c =
-    offers-are (omega (arith, c.if-count-gt13107.false))
+    offers-are (omega (arith, c.if-count.false))
     (omega (
       arith,
       c.read_offers.auto,
