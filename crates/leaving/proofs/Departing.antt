@@ -119,6 +119,16 @@ module _ {n now : ℕ} {st : State} {u₀ b u : List ℕ} {own from i parents : 
       fewer = rw g.keys_left (sorted_grows g.acc (drop_each m n now (g.waiting ++ g.rest) g.table).keys g.typed
           (typed_each n now (g.waiting ++ g.rest) late (rising-typed g.lo (g.waiting ++ g.rest) g.rising) g.sound.bounded))
 
+  pub start_inside : own * key_bytes ≤ length u
+  unfolding x
+  start_inside =
+      omega (
+        arith,
+        ap length (split ks S u₀ u (own * key_bytes) start g.bytes),
+        long ks S u₀ u (own * key_bytes) start g.bytes,
+        length-append (keys_answer ks) (written (keys_answer S) (drop (own * key_bytes) u₀)),
+      )
+
   -- the part of the buffer behind its own keys, which is lent
   module _ (late : now < word) (y : ℕ) (end : y ≡ length u) where
     v : List ℕ
@@ -130,9 +140,6 @@ module _ {n now : ℕ} {st : State} {u₀ b u : List ℕ} {own from i parents : 
     v_is : v ≡ written (keys_answer S) w
     unfolding v w x
     v_is = lent_is ks S u₀ u (own * key_bytes) start g.bytes y end
-
-    pub start_inside : own * key_bytes ≤ length u
-    start_inside = omega (arith, going-long late, g.own-are, g.room, length-append ks (sort_keys (drop_each m n now ks st.table).keys))
 
     w-long : length w ≡ length u₀ - own * key_bytes
     unfolding w

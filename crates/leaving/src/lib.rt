@@ -39,6 +39,7 @@ fn put_own(out: &mut [u8], c: usize, n: u64, r: regions::Row) -> usize
 }
 
 // Writes the keys under which the connection n is a candidate, in their order; answers how many they are.
+#[tactic(auto, using(announcing::proofs::Lent::kept_long, requests::proofs::Keeping::kept_shown))]
 pub fn own_keys(s: &[u8], n: u64, out: &mut [u8]) -> usize
     requires { Kept s.now × (key_bytes * min max_peer_announcements (limit_in s.now) ≤ length out.old) }
     ensures { OwnKeys n s.now out.old out.new result }

@@ -1,18 +1,10 @@
 use native.Mathlib.Omega.{arith}
 use Rattle.store.specs.Flat.{flat_of}
-use Rattle.store.proofs.Frame.{sizes}
-use Rattle.requests.proofs.Keeping.{kept_shown}
 use Rattle.leaving.proofs.OwnRows.{owning_none, owning-room, owning_more, owning_done}
 use Rattle.leaving.proofs.own_keys.Goals as goal
 
-pub rows-rows-requires : goal.rows-rows-requires
-rows-rows-requires c = omega (arith, sizes c.requires.0.writes)
-
 pub loop-i-init : goal.loop-i-init
 loop-i-init c = owning_none c.args.n c.args.s.now c.args.out.now
-
-pub row_at-r-requires : goal.row_at-r-requires
-row_at-r-requires c = (kept_shown c.requires.0, omega (arith, c.rows-rows.ensures.word, c.loop-i-test.true))
 
 pub put_own-c-requires : goal.put_own-c-requires
 put_own-c-requires c =
