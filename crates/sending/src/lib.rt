@@ -1,5 +1,5 @@
 // Sending (document 01, "Sending"): what a claim has taken, arranged by ascending connection, and one connection's part of it.
-#![tactic(auto)]
+#![tactic(auto, using(requests::proofs::Keeping::kept_shown))]
 
 ghost use Rattle.sending.specs.Parts.{Parted};
 

@@ -1,6 +1,7 @@
 -- `sending::witness::listed` meets its contract: a scan of the words.
-use Prim.Native.Nat.{◌/◌}
-use mathlib.Core.Path.{refl, sym, ◌∙◌}
+use Prim.Native.Nat.{◌-◌, ◌/◌}
+use mathlib.Core.Path.{◌≡◌, refl, sym, ◌∙◌}
+use native.Mathlib.Omega.{arith}
 use lib.ListN.{length}
 use Rattle.std.proofs.Common.{rules, tests}
 use Rattle.std.proofs.lemmas.Iterator.{YieldsList-from_range}
@@ -14,5 +15,6 @@ pub returns : goal.returns
 returns c =
     let l = c.args.list.now in
     let n = length l / 8 in
-    any_from_yields_List (is_at c.args.connection (words l)) _ _ _ c.any.ensures.ran (YieldsList-from_range 0 n n refl refl) (λ x b q k. search (rules, tests))
+    let whole : n - 0 ≡ n = omega arith in
+    any_from_yields_List (is_at c.args.connection (words l)) _ _ _ c.any.ensures.ran (YieldsList-from_range 0 n n refl whole) (λ x b q k. search (rules, tests))
     ∙ elem_by c.args.connection (words l) n (sym (length-words l))

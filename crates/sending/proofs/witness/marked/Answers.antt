@@ -2,13 +2,10 @@
 use Rattle.ident.specs.Words.{key_num}
 use Rattle.machine.specs.Table.{at}
 use Rattle.store.specs.Flat.{row_of, flat_of}
-use Rattle.requests.proofs.Keeping.{kept_shown, from_at, to_at}
+use Rattle.requests.proofs.Keeping.{from_at, to_at}
 use Rattle.requests.proofs.Pushing.{its-mark}
 use Rattle.claiming.specs.Claiming.{entry_of, no_entry}
 use Rattle.sending.proofs.witness.marked.Goals as goal
-
-pub mark_in-requires : goal.mark_in-requires
-mark_in-requires c = (kept_shown c.requires, c.window_of-w.ensures.most)
 
 pub returns : goal.returns
 returns c = λ st s w.
