@@ -42,7 +42,7 @@ pub extern "C" fn tracker_owned_plan(
         next.old next.new }
     ensures sound { SoundStore s.new }
 {
-    let p = public_plans::on_sound::plans::plan(s, clock, None, answer);
+    let p = public_plans::on_sound::plans::plan(s, clock, answer);
     crossing::hand_plan(p, considered, count, next)
 }
 
@@ -63,6 +63,6 @@ pub extern "C" fn tracker_owned_plan_given(
         next.old next.new }
     ensures sound { SoundStore s.new }
 {
-    let p = public_plans::on_sound::plans::plan(s, clock, Some(given), answer);
+    let p = public_plans::on_sound::plans::plan_given(s, clock, given, answer);
     crossing::hand_plan(p, considered, count, next)
 }

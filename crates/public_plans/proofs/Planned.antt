@@ -6,7 +6,7 @@ use mathlib.Core.List.{List, [], ◌∷◌, ◌++◌}
 use mathlib.Core.Option.{Option, none, some}
 use native.Mathlib.Omega.{arith}
 use lib.Dec.{eqb, leb, lit<}
-use lib.ListN.{length, get_or, take, drop}
+use lib.ListN.{length, take, drop}
 use denote.Ref.{Bor}
 use Rattle.std.specs.Prelude as rust
 use Rattle.std.specs.Prelude.{IfSome}
@@ -135,7 +135,7 @@ plan_whole now asked s w g a =
 -- ---- the call
 
 -- keys that bytes hold are keys
-pub asked_typed : (o : rust.Option (Bor (List ℕ))) → IfSome o (λ g. (i : ℕ) → get_or g.now i 0 < 256) → KeysTyped (asked_in (λ g. g.now) o)
+pub asked_typed : (o : rust.Option (Bor (List ℕ))) → IfSome o (λ g. Bytes g.now) → KeysTyped (asked_in (λ g. g.now) o)
 asked_typed rust.None h = tt
 asked_typed (rust.Some g) h = given_typed g.now h
 

@@ -23,7 +23,7 @@ pub fn plan(s: &mut [u8], clock: u64, answer: &mut [u8]) -> Result<Selection, Re
     ensures { LeavesWith (On (Plan clock none answer.old)) s.old s.new answer.new (planned_of result) }
 {
     refusals::of_store(s)?;
-    on_sound::plans::plan(s, clock, None, answer)
+    on_sound::plans::plan(s, clock, answer)
 }
 
 // The same over the keys that are given in 40 bytes each; the ready cursor stays.
@@ -36,5 +36,5 @@ pub fn plan_given(
     ensures { LeavesWith (On (Plan clock (some (given_keys given.now)) answer.old)) s.old s.new answer.new (planned_of result) }
 {
     refusals::of_store(s)?;
-    on_sound::plans::plan(s, clock, Some(given), answer)
+    on_sound::plans::plan_given(s, clock, given, answer)
 }

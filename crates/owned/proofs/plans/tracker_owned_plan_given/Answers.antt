@@ -12,6 +12,6 @@ returns c =
     (λ i. omega (arith, c.type_inv.given i)) in
     let o = owner-plan m c.requires
     (λ i. grind arith)
-    c.plan-p.result _ _ _ c.plan-p.ensures
+    c.plan_given-p.result _ _ _ c.plan_given-p.ensures
     c.hand_plan.ensures in
     record { hands_plan = o.0; sound = o.1 }
