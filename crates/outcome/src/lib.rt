@@ -14,6 +14,10 @@ pub mod refusals;
 
 pub use refusal::Refusal;
 
+use places::PLACE;
+use regions::{CONN, ROW};
+use store::head::HEAD;
+
 // What `sum` tells: how many announcements are held, how many more fit of unpreferred newcomers and of preferred ones, and how full the tracker is in thousandths.
 #[derive(Clone, Copy, Debug, PartialEq, Eq)]
 pub struct Figures {
@@ -46,5 +50,5 @@ pub fn need(l: usize, q: usize) -> usize
     requires { (l ≤ limits.max_announcements) × (q ≤ limits.max_places) }
     ensures { result ≡ limits.need l q }
 {
-    8 * (24 + 12 * l + 824 * q)
+    8 * (HEAD + (ROW + CONN) * l + PLACE * q)
 }

@@ -14,8 +14,8 @@ use ident::connection::Connection;
 use machine::clock::Clock;
 use machine::limits::MAX_PARENTS;
 
-// Bytes that the answer of a call needs that lists keys, but those whose need is named: 101 keys of 40 bytes.
-pub const KEYS_ANSWER: usize = 4_040;
+// Bytes that the answer of a call needs that lists keys, but those whose need is named: a key, and its parents.
+pub const KEYS_ANSWER: usize = (1 + MAX_PARENTS) * lent_lists::KEY;
 
 // The test that comes first: whether the bytes, as far as their need, write a sound state.
 pub fn of_store(s: &[u8]) -> Result<(), Refusal>

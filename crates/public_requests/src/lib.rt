@@ -43,7 +43,7 @@ pub fn open(s: &mut [u8], l: u64, q: u64) -> Result<u64, Refusal>
         return Err(Refusal::StoreTooShort);
     }
     store::head::fill(&mut s[..n], l as usize, q as usize);
-    Ok(1)
+    Ok(RETURNED)
 }
 
 // How many announcements are held, how many more fit of unpreferred newcomers and of preferred ones, who may evict, and how full the tracker is in

@@ -22,8 +22,8 @@ pub fn sum(s: &[u8]) -> Result<Figures, Refusal>
     requires { SoundStore s.now }
     ensures { Leaves (On Sum) s.now s.now (figures_of result) }
 {
-    let l = words::get(s, 1);
-    let n = words::get(s, 3);
+    let l = store::head::limit(s) as u64;
+    let n = store::head::rows(s) as u64;
     let e = refusals::need_of(s);
     let m = announcing::evict::evictable(&s[..e]);
     Ok(figures_of(n, l, m))

@@ -37,6 +37,9 @@ pub const MAX_ITEMS: usize = 50_000;
 // Bytes of an item in a payload.
 pub const WIRE_BYTES: usize = 36;
 
+// Words of an item in a list.
+const ITEM_WORDS: usize = lent_lists::ITEM / 8;
+
 // The first byte of a count that has two more; a count below it is one byte.
 const TWO_MORE: u64 = 253;
 
@@ -97,7 +100,7 @@ fn read_item(p: &[u8], a: usize, list: &mut [u8], i: usize)
 {
     let t = type_at(p, a);
     let h = ident::hash_at(p, a + 4);
-    let w = i * 5;
+    let w = i * ITEM_WORDS;
     words::put(list, w, t);
     ident::put_hash(list, w * 8 + 8, h);
 }
@@ -143,7 +146,7 @@ fn all_plain(items: &[u8]) -> bool
     true
 }
 
-// Stores the type t from index a on.
+// Stores the type t from index a on. (Byte by byte, as `words::put`.)
 fn put_type(s: &mut [u8], a: usize, t: u32)
     requires { a + 4 ≤ length s.old }
     ensures { s.new ≡ splice s.old a (digits 256 4 t) }
@@ -182,9 +185,10 @@ fn put_count(s: &mut [u8], n: usize)
         s[0] = n as u8;
         return;
     }
+    let [low, high] = (n as u16).to_le_bytes();
     s[0] = TWO_MORE as u8;
-    s[1] = (n % 256) as u8;
-    s[2] = (n / 256 % 256) as u8;
+    s[1] = low;
+    s[2] = high;
 }
 
 // Stores the items of the list one behind the other, from index at on. (n is the list's count, which `write_payload` has tested.)

@@ -96,8 +96,6 @@ pub fn package_info_owner(s: &[u8], key: ident::Key, clock: u64) -> Result<u64, 
     refusals::of_clock(clock)?;
     let n = refusals::need_of(s);
     // A number answers, and no connection is 0.
-    match failing::package_info_owner(&s[..n], key, clock) {
-        Some(owner) => Ok(owner.number),
-        None => Ok(0),
-    }
+    let owner = failing::package_info_owner(&s[..n], key, clock);
+    Ok(owner.map_or(0, |owner| owner.number))
 }

@@ -6,6 +6,7 @@ ghost use Rattle.store.specs.Image.{SoundStore};
 ghost use Rattle.outcome.specs.Outcome.{Leaves, LeavesWith};
 ghost use Rattle.outcome.specs.Reply.{reply_of, listing_of};
 
+use machine::limits::MAX_KNOWN_CHECKS;
 use outcome::{Refusal, refusals, replied};
 
 // The bytes that a sweep's answer may need: min(1,024, L) keys.
@@ -13,11 +14,7 @@ fn sweep_needs(s: &[u8]) -> usize
     requires { SoundStore s.now }
     ensures { (w : SoundStore s.now) → result ≡ key_bytes * min max_known_checks w.state.limit }
 {
-    let l = store::head::limit(s);
-    if l < machine::limits::MAX_KNOWN_CHECKS {
-        return l * lent_lists::KEY;
-    }
-    machine::limits::MAX_KNOWN_CHECKS * lent_lists::KEY
+    store::head::limit(s).min(MAX_KNOWN_CHECKS) * lent_lists::KEY
 }
 
 pub fn sweep(s: &mut [u8], answer: &mut [u8]) -> Result<u64, Refusal>

@@ -21,4 +21,4 @@ pub bounds-s-2 : goal.bounds-s-2
 bounds-s-2 c = simp length-set (omega (arith, length_three c.args.n (omega arith) (omega arith)))
 
 pub returns : goal.returns
-returns c = stores_three c.args.s.now c.args.n (omega (arith, length_three c.args.n (omega arith) (omega arith))) (omega arith) (omega arith)
+returns c = rw c.to_le_bytes.ensures (stores_three c.args.s.now c.args.n (omega (arith, length_three c.args.n (omega arith) (omega arith))) (omega arith) (omega arith))

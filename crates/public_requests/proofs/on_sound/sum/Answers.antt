@@ -4,19 +4,19 @@ use Rattle.outcome.proofs.Header.{head-inside}
 use Rattle.public_requests.proofs.Summing.{figures-fit, sum-figures}
 use Rattle.public_requests.proofs.on_sound.sum.Goals as goal
 
-pub get-l-requires : goal.get-l-requires
-get-l-requires c = omega (arith, head-inside c.args.s.now c.requires)
+pub limit-l-requires : goal.limit-l-requires
+limit-l-requires c = head-inside c.args.s.now c.requires
 
-pub get-n-requires : goal.get-n-requires
-get-n-requires c = omega (arith, head-inside c.args.s.now c.requires)
+pub rows-n-requires : goal.rows-n-requires
+rows-n-requires c = head-inside c.args.s.now c.requires
 
 pub figures_of-requires : goal.figures_of-requires
 figures_of-requires c =
-    figures-fit c.args.s.now c.requires c.get-n.result c.get-l.result c.evictable-m.result
-    c.get-n.ensures c.get-l.ensures c.need_of-e.ensures c.evictable-m.ensures
+    figures-fit c.args.s.now c.requires c.rows-n.result c.limit-l.result c.evictable-m.result
+    c.rows-n.ensures.word c.limit-l.ensures.word c.need_of-e.ensures c.evictable-m.ensures
 
 pub returns : goal.returns
 returns c =
-    sum-figures c.args.s.now c.requires c.get-n.result c.get-l.result c.evictable-m.result
-    (λ i. omega (arith, c.type_inv.s i)) c.get-n.ensures
-    c.get-l.ensures c.need_of-e.ensures c.evictable-m.ensures c.figures_of.ensures
+    sum-figures c.args.s.now c.requires c.rows-n.result c.limit-l.result c.evictable-m.result
+    (λ i. omega (arith, c.type_inv.s i)) c.rows-n.ensures.word
+    c.limit-l.ensures.word c.need_of-e.ensures c.evictable-m.ensures c.figures_of.ensures

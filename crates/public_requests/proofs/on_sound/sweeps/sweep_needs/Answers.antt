@@ -3,11 +3,8 @@ use native.Mathlib.Omega.{arith}
 use Rattle.outcome.proofs.Header.{head-inside, limit-word}
 use Rattle.public_requests.proofs.on_sound.sweeps.sweep_needs.Goals as goal
 
-pub limit-l-requires : goal.limit-l-requires
-limit-l-requires c = head-inside c.args.s.now c.requires
-
-pub returns-then-l-lt-MAX_KNOWN_CHECKS : goal.returns-then-l-lt-MAX_KNOWN_CHECKS
-returns-then-l-lt-MAX_KNOWN_CHECKS c w = omega (arith, c.limit-l.ensures.word, limit-word c.args.s.now w)
+pub limit-requires : goal.limit-requires
+limit-requires c = head-inside c.args.s.now c.requires
 
 pub returns : goal.returns
-returns c w = omega (arith, c.limit-l.ensures.word, limit-word c.args.s.now w)
+returns c w = omega (arith, c.limit.ensures.word, limit-word c.args.s.now w)
