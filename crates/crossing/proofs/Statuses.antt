@@ -31,7 +31,7 @@ use Rattle.outcome.specs.declared.Departure.{Departure}
 use Rattle.outcome.specs.Refusals.{number_of, refusal_in}
 use Rattle.outcome.proofs.Turns.{never_none}
 use Rattle.crossing.proofs.Replies.{RepliesOne}
-use Rattle.crossing.specs.Status.{handed_out, held_out, free_out, preferred_out, permille_out, own_out, parents_out, considered_out, chosen_out, next_out}
+use Rattle.crossing.specs.Status.{NumberHanded, held_out, free_out, preferred_out, permille_out, own_out, parents_out, considered_out, chosen_out, next_out}
 use Rattle.crossing.specs.Status.{told, numbered, figured, Stays, HandsOut, HandsKeys, HandsEntries, HandsDeparture, HandsPlan, HandsOwners, HandsText}
 
 -- ---- a refusal's number is not 0
@@ -50,12 +50,12 @@ stays (suc k) was = refl
 
 -- ---- answers that are a number
 
-handed : (c : Call) (a : Result ℕ Refusal) (was : ℕ) {b z : List ℕ} {r n : ℕ} → Leaves c b z (reply_of a) → (r ≡ refusal_in a) × (n ≡ handed_out a was) → HandsOut c b z r was n
-handed c (Err x) was d e = rw (e.0, e.1) (rw (refused-told x (Number was)) d, stays (number_of x) was)
-handed c (Ok k) was d e = rw (e.0, e.1) (d, tt)
+handed : (c : Call) (a : Result ℕ Refusal) (was : ℕ) {b z : List ℕ} {r n : ℕ} → Leaves c b z (reply_of a) → NumberHanded a was n r → HandsOut c b z r was n
+handed c (Err x) was d e = rw (e.told.0, e.told.1) (rw (refused-told x (Number was)) d, stays (number_of x) was)
+handed c (Ok k) was d e = rw (e.told.0, e.told.1) (d, tt)
 
 -- the export of a call: c₀ is what was asked, c what it says of the arguments
-pub hands_out : {c₀ c : Call} (a : Result ℕ Refusal) (was : ℕ) {b z : List ℕ} {r n : ℕ} → Leaves c₀ b z (reply_of a) → (r ≡ refusal_in a) × (n ≡ handed_out a was) → c₀ ≡ c → HandsOut c b z r was n
+pub hands_out : {c₀ c : Call} (a : Result ℕ Refusal) (was : ℕ) {b z : List ℕ} {r n : ℕ} → Leaves c₀ b z (reply_of a) → NumberHanded a was n r → c₀ ≡ c → HandsOut c b z r was n
 hands_out {c₀} {c} a was {b} {z} d e q = handed c a was (subst (λ (x : Call). Leaves x b z (reply_of a)) q d) e
 
 -- ---- opening and the calls of which the Rust returns nothing: carried out, they reply 1
@@ -102,35 +102,35 @@ hands-figures (Ok y) h₀ f₀ p₀ m₀ d e = rw (e.0, e.1, e.2, e.3, e.4) (d, 
 
 -- ---- answers that list keys
 
-keys-handed : (c : Call) (a : Result ℕ Refusal) (was : ℕ) {b z : List ℕ} {u : Buffer} {r n : ℕ} → LeavesWith c b z u (listing_of a) → (r ≡ refusal_in a) × (n ≡ handed_out a was)
+keys-handed : (c : Call) (a : Result ℕ Refusal) (was : ℕ) {b z : List ℕ} {u : Buffer} {r n : ℕ} → LeavesWith c b z u (listing_of a) → NumberHanded a was n r
     → HandsKeys c b z u r was n
-keys-handed c (Err x) was d e = rw (e.0, e.1) (rw (refused-told x _) d, stays (number_of x) was)
-keys-handed c (Ok k) was d e = rw (e.0, e.1) (d, tt)
+keys-handed c (Err x) was d e = rw (e.told.0, e.told.1) (rw (refused-told x _) d, stays (number_of x) was)
+keys-handed c (Ok k) was d e = rw (e.told.0, e.told.1) (d, tt)
 
-pub hands-keys : {c₀ c : Call} (a : Result ℕ Refusal) (was : ℕ) {b z : List ℕ} {u : Buffer} {r n : ℕ} → LeavesWith c₀ b z u (listing_of a) → (r ≡ refusal_in a) × (n ≡ handed_out a was)
+pub hands-keys : {c₀ c : Call} (a : Result ℕ Refusal) (was : ℕ) {b z : List ℕ} {u : Buffer} {r n : ℕ} → LeavesWith c₀ b z u (listing_of a) → NumberHanded a was n r
     → c₀ ≡ c → HandsKeys c b z u r was n
 hands-keys {c₀} {c} a was {b} {z} {u} d e q = keys-handed c a was (subst (λ (x : Call). LeavesWith x b z u (listing_of a)) q d) e
 
 -- ---- answers that list entries
 
-pub hands-entries : {c : Call} (a : Result ℕ Refusal) (was : ℕ) {b z : List ℕ} {u : Buffer} {r n : ℕ} → LeavesWith c b z u (entries_of a) → (r ≡ refusal_in a) × (n ≡ handed_out a was)
+pub hands-entries : {c : Call} (a : Result ℕ Refusal) (was : ℕ) {b z : List ℕ} {u : Buffer} {r n : ℕ} → LeavesWith c b z u (entries_of a) → NumberHanded a was n r
     → HandsEntries c b z u r was n
-hands-entries (Err x) was d e = rw (e.0, e.1) (rw (refused-told x _) d, stays (number_of x) was)
-hands-entries (Ok k) was d e = rw (e.0, e.1) (d, tt)
+hands-entries (Err x) was d e = rw (e.told.0, e.told.1) (rw (refused-told x _) d, stays (number_of x) was)
+hands-entries (Ok k) was d e = rw (e.told.0, e.told.1) (d, tt)
 
 -- ---- answers that tell owners
 
-pub hands-owners : {c : Call} (hs : List ℕ) (a : Result ℕ Refusal) (was : ℕ) {b z : List ℕ} {u : Buffer} {r n : ℕ} → LeavesWith c b z u (owners_of hs a) → (r ≡ refusal_in a) × (n ≡ handed_out a was)
+pub hands-owners : {c : Call} (hs : List ℕ) (a : Result ℕ Refusal) (was : ℕ) {b z : List ℕ} {u : Buffer} {r n : ℕ} → LeavesWith c b z u (owners_of hs a) → NumberHanded a was n r
     → HandsOwners c hs b z u r was n
-hands-owners hs (Err x) was d e = rw (e.0, e.1) (rw (refused-told x _) d, stays (number_of x) was)
-hands-owners hs (Ok k) was d e = rw (e.0, e.1) (d, tt)
+hands-owners hs (Err x) was d e = rw (e.told.0, e.told.1) (rw (refused-told x _) d, stays (number_of x) was)
+hands-owners hs (Ok k) was d e = rw (e.told.0, e.told.1) (d, tt)
 
 -- ---- answers that are a text
 
-pub hands-text : {c : Call} (a : Result ℕ Refusal) (was : ℕ) {b z : List ℕ} {u : Buffer} {r n : ℕ} → LeavesWith c b z u (text_of a) → (r ≡ refusal_in a) × (n ≡ handed_out a was)
+pub hands-text : {c : Call} (a : Result ℕ Refusal) (was : ℕ) {b z : List ℕ} {u : Buffer} {r n : ℕ} → LeavesWith c b z u (text_of a) → NumberHanded a was n r
     → HandsText c b z u r was n
-hands-text (Err x) was d e = rw (e.0, e.1) (rw (refused-told x _) d, stays (number_of x) was)
-hands-text (Ok k) was d e = rw (e.0, e.1) (d, tt)
+hands-text (Err x) was d e = rw (e.told.0, e.told.1) (rw (refused-told x _) d, stays (number_of x) was)
+hands-text (Ok k) was d e = rw (e.told.0, e.told.1) (d, tt)
 
 -- ---- of a connection that left
 

@@ -1,7 +1,5 @@
 -- What the arguments of an exported call stand for.
-use Rattle.std.specs.Prelude.{ℕ, Bool, List, eqb, if◌then◌else◌}
-use Rattle.ident.specs.declared.Kind.{Kind}
-use Rattle.ident.specs.declared.Kind.TheVariants.{Txid, Wtxid}
+use Rattle.std.specs.Prelude.{ℕ, Bool, List}
 use Rattle.ident.specs.Number.{Key, kind_is, item_kind_of}
 use Rattle.words.specs.Words.{number}
 use Rattle.machine.specs.State.{Candidate}

@@ -6,3 +6,11 @@ use Rattle.std.specs.Prelude.{ℕ, ◌≡◌, Result, Ok, Err}
 abbrev pub Handed : {T E W : Type 0} → (W → T → Unit {0} → W → Type 0) → (E → ℕ → Type 0) → Result T E → W → W → ℕ → Type 0
 Handed step numbered (Ok x) f f' status = (status ≡ 0) × step f x tt f'
 Handed step numbered (Err e) f f' status = numbered e status × (f' ≡ f)
+
+-- The same where `write` stores the number told: `was` stood there, and `is` stands there now.
+abbrev pub HandedAs : {E : Type 0} → (E → ℕ → Type 0) → Result ℕ E → ℕ → ℕ → ℕ → Type 0
+HandedAs numbered (Ok n) was is status = (status ≡ 0) × (is ≡ n)
+HandedAs numbered (Err e) was is status = numbered e status × (is ≡ was)
+
+pub record HandedOut {E : Type 0} (numbered : E → ℕ → Type 0) (a : Result ℕ E) (was is status : ℕ) : Type 0 where
+  pub told : HandedAs numbered a was is status

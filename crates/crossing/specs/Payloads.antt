@@ -1,20 +1,15 @@
 -- What the numbers of the exported calls on payloads say.
-use Rattle.std.specs.Prelude.{ℕ, zero, suc, List, Result, Ok, Err}
+use Rattle.std.specs.Prelude.{ℕ, zero, suc, ◌≡◌, List, Result}
 use Rattle.ident.specs.Number.{Item}
 use Rattle.machine.specs.Call.{Buffer}
 use Rattle.wire.specs.declared.Refusal.{Refusal}
 use Rattle.wire.specs.Calls.{refusal_number, Reply, Refused, Bytes, items_listed, Reads, Writes}
 use Rattle.crossing.specs.Status.{Stays}
+use Rattle.crossing.specs.Handed.{HandedOut}
 
--- the status of an answer
-abbrev pub answer_status : Result ℕ Refusal → ℕ
-answer_status (Err r) = refusal_number r
-answer_status (Ok n) = 0
-
--- the count that it hands out; refused, what stood there stays
-abbrev pub answer_out : Result ℕ Refusal → ℕ → ℕ
-answer_out (Err r) was = was
-answer_out (Ok n) was = n
+-- an answer, its status, and the count handed out, which stood at `was` and is now `is`
+abbrev pub CountHanded : Result ℕ Refusal → ℕ → ℕ → ℕ → Type 0
+CountHanded a was is status = HandedOut (λ r k. k ≡ refusal_number r) a was is status
 
 -- the reply of a status: r, if the call was carried out
 abbrev pub said : ℕ → Reply → Reply

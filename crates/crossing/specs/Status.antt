@@ -10,6 +10,8 @@ use Rattle.outcome.specs.Reply.{keys_listed, left_listed, text_listed}
 use Rattle.public_plans.specs.Entries.{entries_listed, chosen_listed}
 use Rattle.public_plans.specs.Ownership.{owners_listed}
 use Rattle.public_plans.specs.declared.Selection.{Selection}
+use Rattle.outcome.specs.Refusals.{number_of}
+use Rattle.crossing.specs.Handed.{HandedOut}
 
 -- The status of an answer is its refusal's number, or 0: `refusal_in` (crates/outcome, specs/Refusals).
 
@@ -18,9 +20,9 @@ abbrev pub handed : {T : Type 0} → (T → ℕ) → Result T Refusal → ℕ �
 handed f (Err r) was = was
 handed f (Ok x) was = f x
 
--- an answer that is a number, or a count of keys or entries, or a text's length
-abbrev pub handed_out : Result ℕ Refusal → ℕ → ℕ
-handed_out a was = handed (λ (n : ℕ). n) a was
+-- an answer that is a number, or a count of keys or entries, or a text's length: its status, and the number handed out, which stood at `was` and is now `is`
+abbrev pub NumberHanded : Result ℕ Refusal → ℕ → ℕ → ℕ → Type 0
+NumberHanded a was is status = HandedOut (λ r k. k ≡ number_of r) a was is status
 
 -- sum: its four figures
 abbrev pub held_out : Result Figures Refusal → ℕ → ℕ

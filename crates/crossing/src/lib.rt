@@ -4,10 +4,9 @@
 
 ghost use Rattle.std.specs.Prelude.{◌≡◌};
 ghost use Rattle.outcome.specs.Refusals.{refusal_in};
-ghost use Rattle.crossing.specs.Status.{handed_out, held_out, free_out, preferred_out, permille_out, own_out, parents_out, considered_out, chosen_out, next_out};
+ghost use Rattle.crossing.specs.Status.{held_out, free_out, preferred_out, permille_out, own_out, parents_out, considered_out, chosen_out, next_out};
 ghost use Rattle.crossing.specs.Counts.{announced_out, owned_out};
-ghost use Rattle.crossing.specs.Payloads.{answer_status, answer_out};
-ghost use Rattle.crossing.specs.Handed.{Handed};
+ghost use Rattle.crossing.specs.Handed.{Handed, HandedOut};
 
 use outcome::{Departure, Figures, Refusal};
 use public_plans::Selection;
@@ -39,9 +38,11 @@ where
     }
 }
 
-// The status, and the reply handed out: a number, or how many keys, entries or bytes stand in the answer buffer.
-pub fn hand_out(a: Result<u64, Refusal>, reply: &mut u64) -> u64
-    ensures { (result ≡ refusal_in a) × (reply.new ≡ handed_out a reply.old) }
+// The status, and the reply handed out: a number, or how many keys, entries, items or bytes stand in the answer buffer.
+pub fn hand_out<E>(a: Result<u64, E>, reply: &mut u64) -> u64
+where
+    u64: From<E>,
+    ensures { HandedOut ⟦<u64 as From<E>>⟧.from_gives a reply.old reply.new result }
 {
     let mut write = |n: u64| *reply = n;
     hand(a, &mut write)
@@ -103,13 +104,5 @@ pub fn hand_counts(a: Result<Counts, Refusal>, announced: &mut u64, owned: &mut 
         *announced = counts.announced;
         *owned = counts.owned;
     };
-    hand(a, &mut write)
-}
-
-// The same of a call on a payload: the count of items read, or of bytes written.
-pub fn hand_answer(a: Result<u64, wire::Refusal>, count: &mut u64) -> u64
-    ensures { (result ≡ answer_status a) × (count.new ≡ answer_out a count.old) }
-{
-    let mut write = |size: u64| *count = size;
     hand(a, &mut write)
 }

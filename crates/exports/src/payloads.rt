@@ -2,7 +2,7 @@
 ghost use Rattle.lent_lists.specs.Items.{items_in};
 ghost use Rattle.crossing.specs.Payloads.{HandsItems, HandsBytes};
 
-use crossing::hand_answer;
+use crossing::hand_out;
 
 // The items of a whole inv, getdata or notfound payload stand in the answer in 40 bytes each: so many as `count` says. They can be given to
 // tracker_announce_transactions and tracker_transaction_not_found as they stand there. It takes no store.
@@ -11,7 +11,7 @@ pub extern "C" fn tracker_read_payload(payload: &[u8], answer: &mut [u8], count:
     ensures { HandsItems payload.now answer.old answer.new result count.old count.new }
 {
     let a = wire::read_payload(payload, answer);
-    hand_answer(a, count)
+    hand_out(a, count)
 }
 
 // The payload of the items, which are given in 40 bytes each, stands in the answer: so many bytes as `written` says. An item whose type's word is 2^32 or more is an
@@ -21,5 +21,5 @@ pub extern "C" fn tracker_write_payload(items: &[u8], answer: &mut [u8], written
     ensures { HandsBytes (items_in items.now) answer.old answer.new result written.old written.new }
 {
     let a = wire::write_payload(items, answer);
-    hand_answer(a, written)
+    hand_out(a, written)
 }

@@ -12,9 +12,8 @@ ghost use Rattle.machine.specs.Table.{one};
 pub mod refusal;
 pub mod refusals;
 
-pub use refusal::Refusal;
-
 use places::PLACE;
+pub use refusal::Refusal;
 use regions::{CONN, ROW};
 use store::head::HEAD;
 

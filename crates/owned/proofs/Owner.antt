@@ -17,17 +17,17 @@ use Rattle.public_plans.specs.declared.Selection.{Selection}
 use Rattle.tracker.specs.Made.{Made}
 use Rattle.tracker.proofs.Typed.{made_typed}
 use Rattle.outcome.proofs.Owned.{does-keeps-sound}
-use Rattle.crossing.specs.Status.{handed_out, own_out, parents_out, numbered, HandsOut}
+use Rattle.crossing.specs.Status.{NumberHanded, own_out, parents_out, numbered, HandsOut}
 use Rattle.crossing.specs.Status.{HandsKeys, HandsEntries, HandsDeparture, considered_out, chosen_out, next_out, HandsPlan}
 use Rattle.crossing.proofs.Replies.{RepliesOne}
 use Rattle.crossing.proofs.Statuses.{hands_out, hands-keys, hands-entries, hands-departure, hands-plan, one_told}
 
 -- c₀ is the call that was made of the sound store b, c what the export says of its arguments; z is left
 module _ {c₀ : Call} (m : Made c₀) {b : List ℕ} (w : SoundStore b) (p : Bytes b) {c : Call} {z : List ℕ} where
-  pub owner-number : (a : Result ℕ Refusal) (was : ℕ) {r n : ℕ} → Leaves c₀ b z (reply_of a) → (r ≡ refusal_in a) × (n ≡ handed_out a was) → c₀ ≡ c → HandsOut c b z r was n × SoundStore z
+  pub owner-number : (a : Result ℕ Refusal) (was : ℕ) {r n : ℕ} → Leaves c₀ b z (reply_of a) → NumberHanded a was n r → c₀ ≡ c → HandsOut c b z r was n × SoundStore z
   owner-number a was d e q = (hands_out a was d e q, does-keeps-sound w (made_typed c₀ m) p d)
 
-  pub owner-keys : (l : Result ℕ Refusal) (was : ℕ) {u : Buffer} {r n : ℕ} → LeavesWith c₀ b z u (listing_of l) → (r ≡ refusal_in l) × (n ≡ handed_out l was) → c₀ ≡ c
+  pub owner-keys : (l : Result ℕ Refusal) (was : ℕ) {u : Buffer} {r n : ℕ} → LeavesWith c₀ b z u (listing_of l) → NumberHanded l was n r → c₀ ≡ c
       → HandsKeys c b z u r was n × SoundStore z
   owner-keys l was d e q = (hands-keys l was d e q, does-keeps-sound w (made_typed c₀ m) p d)
 
@@ -37,7 +37,7 @@ module _ {c₀ : Call} (m : Made c₀) {b : List ℕ} (w : SoundStore b) (p : By
 
 -- where the export says what was asked, in the same words: of a call that lists entries
 pub owner-entries : {c : Call} → Made c → {b : List ℕ} → SoundStore b → Bytes b → (l : Result ℕ Refusal) (was : ℕ) {z : List ℕ} {u : Buffer} {r n : ℕ} → LeavesWith c b z u (entries_of l)
-    → (r ≡ refusal_in l) × (n ≡ handed_out l was) → HandsEntries c b z u r was n × SoundStore z
+    → NumberHanded l was n r → HandsEntries c b z u r was n × SoundStore z
 owner-entries {c} m w p l was d e = (hands-entries l was d e, does-keeps-sound w (made_typed c m) p d)
 
 -- of a connection that left

@@ -5,4 +5,4 @@ use Rattle.exports.proofs.payloads.tracker_read_payload.Goals as goal
 pub returns : goal.returns
 returns c =
     hands-items c.args.payload.now c.args.answer.now c.read_payload-a.result _
-    c.read_payload-a.ensures c.hand_answer.ensures
+    c.read_payload-a.ensures c.hand_out.ensures

@@ -6,4 +6,4 @@ use Rattle.exports.proofs.payloads.tracker_write_payload.Goals as goal
 pub returns : goal.returns
 returns c =
     hands_bytes (items_in c.args.items.now) c.args.answer.now c.write_payload-a.result _
-    c.write_payload-a.ensures c.hand_answer.ensures
+    c.write_payload-a.ensures c.hand_out.ensures
