@@ -12,7 +12,9 @@ ghost use Rattle.sound.specs.Places.{PlaceSound, PlacesSound, PlaceFollows, hash
 
 use crate::owner::{is_owned, walk_to};
 use machine::limits::{MAX_PARENTS, MAX_WTXIDS};
-use places::{COMBINED, DEAD, ENQUEUED, FLAG, PARENT_COUNT, PARENTS, PLACE, SPARE, STAGE, WTXID_COUNT, WTXIDS};
+use places::{
+    COMBINED, DEAD, ENQUEUED, FLAG, PARENT_COUNT, PARENTS, PLACE, SPARE, STAGE, WTXID_COUNT, WTXIDS,
+};
 use regions::Row;
 use regions::listed::Records;
 
