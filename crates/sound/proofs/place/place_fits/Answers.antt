@@ -25,8 +25,8 @@ returns-then-not-stage_fits c =
     (failed (StagePlain c.get-stage.result (quad_number c.read_quad-combined.result) c.get-wtxids.result)
     c.stage_fits.result c.if-not-stage_fits.true-raw c.stage_fits.ensures)
 
-pub returns-then-parents-gt-MAX_PARENTS : goal.returns-then-parents-gt-MAX_PARENTS
-returns-then-parents-gt-MAX_PARENTS c =
+pub returns-then-parents : goal.returns-then-parents
+returns-then-parents c =
     let v = words c.args.p.now in
     let rs = recs row_size read_row c.args.rows.count
     (words c.args.rows.bytes.now) in

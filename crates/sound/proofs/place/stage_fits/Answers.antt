@@ -9,16 +9,16 @@ pub returns-then-n-ne0 : goal.returns-then-n-ne0
 returns-then-n-ne0 c = λ p. elim (stage_cases c.args.stage (quad_number c.args.combined) c.args.n p)
     [ inl f ↦ omega (arith, f.stage, f.wtxids) | inr f ↦ omega (arith, f.some, f.most, f.some_wtxid) ]
 
-pub returns-then-stage-eq1 : goal.returns-then-stage-eq1
-returns-then-stage-eq1 c = flag-decides c.args.stage (quad_number c.args.combined) c.args.n c.same_hash.result
+pub returns-then-stage-eq-FLAG : goal.returns-then-stage-eq-FLAG
+returns-then-stage-eq-FLAG c = flag-decides c.args.stage (quad_number c.args.combined) c.args.n c.same_hash.result
     (omega arith) (omega arith) (rw zero_number at c.same_hash.ensures)
 
-pub returns-then-stage-eq0 : goal.returns-then-stage-eq0
-returns-then-stage-eq0 c = λ p. elim (stage_cases c.args.stage (quad_number c.args.combined) c.args.n p)
+pub returns-then-stage-eq-DEAD : goal.returns-then-stage-eq-DEAD
+returns-then-stage-eq-DEAD c = λ p. elim (stage_cases c.args.stage (quad_number c.args.combined) c.args.n p)
     [ inl f ↦ omega (arith, f.stage, f.wtxids) | inr f ↦ omega (arith, f.some, f.most, f.some_wtxid) ]
 
-pub returns-then-stage-gt3 : goal.returns-then-stage-gt3
-returns-then-stage-gt3 c = λ p. elim (stage_cases c.args.stage (quad_number c.args.combined) c.args.n p)
+pub returns-then-stage-gt-ENQUEUED : goal.returns-then-stage-gt-ENQUEUED
+returns-then-stage-gt-ENQUEUED c = λ p. elim (stage_cases c.args.stage (quad_number c.args.combined) c.args.n p)
     [ inl f ↦ omega (arith, f.stage, f.wtxids) | inr f ↦ omega (arith, f.some, f.most, f.some_wtxid) ]
 
 pub returns-then-n-eq0 : goal.returns-then-n-eq0
