@@ -7,22 +7,28 @@ ghost use Rattle.std.specs.Prelude.{◌≡◌, ◌+◌, ◌/◌, ◌^◌, ◌≤
 ghost use Rattle.words.specs.Words.{words, Decides};
 ghost use Rattle.sound_conns.specs.Conns.{names, Place, many};
 
+use crate::MANY;
 use regions::listed::Records;
 use regions::{CONN, Conn};
-
-// Entries of a window at most.
-const MANY: usize = 8192;
 
 const WORD: u64 = 0x1_0000_0000;
 
 const TOP: u64 = 0x8000_0000_0000_0000;
+
+// How a connection's slot in the first table is found: from the connection as it is, or spread in one of two ways.
+#[derive(Clone, Copy)]
+pub enum Way {
+    Plain,
+    Spread,
+    SpreadAnew,
+}
 
 // The filled tables of a window: the slots of both, the number of the first's less one, and how the first was filled.
 #[derive(Clone, Copy)]
 pub struct Guesses<'a> {
     pub slots: &'a [u16],
     pub mask: u64,
-    pub way: u64,
+    pub way: Way,
     ghost narrow: { mask < 2 ^ 32 },
     ghost roomy: { mask + 1 + mask / 4 < length slots.now },
 }
@@ -96,15 +102,13 @@ fn seek_entry(conns: Records<Conn>, lo: usize, x: u64) -> usize
 
 // ---- the slots (while they are filled, lent ones that change, with the mask beside them: `Guesses` holds them when they are)
 
-// A connection as it is, or spread in one of two ways: a factor for each of its halves.
-fn spread(x: u64, way: u64) -> u64 {
-    if way == 0 {
-        return x;
+// (Spread by a factor for each of its halves.)
+fn spread(x: u64, way: Way) -> u64 {
+    match way {
+        Way::Plain => x,
+        Way::Spread => (x % WORD * 0x1e37_79b1 + x / WORD * 0x2c1b_3c6d) / 0x1000_0000,
+        Way::SpreadAnew => (x % WORD * 0x2545_f491 + x / WORD * 0x1b87_3593) / 0x1000_0000,
     }
-    if way == 1 {
-        return (x % WORD * 0x1e37_79b1 + x / WORD * 0x2c1b_3c6d) / 0x1000_0000;
-    }
-    (x % WORD * 0x2545_f491 + x / WORD * 0x1b87_3593) / 0x1000_0000
 }
 
 fn low_bits(x: u64, mask: u64) -> usize
@@ -114,7 +118,7 @@ fn low_bits(x: u64, mask: u64) -> usize
 }
 
 // Where the guess of x's entry is kept.
-fn slot(x: u64, way: u64, mask: u64) -> usize
+fn slot(x: u64, way: Way, mask: u64) -> usize
     ensures { result ≤ mask }
 {
     low_bits(spread(x, way), mask)
@@ -140,7 +144,7 @@ fn wide(x: u16) -> usize
 }
 
 // Keeps for the entries from lo on where they are. (Of two that meet, the later.)
-fn fill_first(conns: Records<Conn>, lo: usize, guess: &mut [u16], mask: u64, way: u64)
+fn fill_first(conns: Records<Conn>, lo: usize, guess: &mut [u16], mask: u64, way: Way)
     requires { (mask < 2 ^ 32) × (mask + 1 + mask / 4 < length guess.old) }
     ensures { length guess.new ≡ length guess.old }
 {
@@ -155,7 +159,7 @@ fn fill_first(conns: Records<Conn>, lo: usize, guess: &mut [u16], mask: u64, way
 }
 
 // Keeps where x's entry is in the second table, if it lost its slot in the first. 1 if it did, else 0: a number, since its caller adds it up.
-fn give_second(guess: &mut [u16], mask: u64, way: u64, x: u64, j: usize) -> usize
+fn give_second(guess: &mut [u16], mask: u64, way: Way, x: u64, j: usize) -> usize
     requires { (mask < 2 ^ 32) × (mask + 1 + mask / 4 < length guess.old) × (j < many) }
     ensures { (result ≤ 1) × (length guess.new ≡ length guess.old) }
 {
@@ -169,7 +173,7 @@ fn give_second(guess: &mut [u16], mask: u64, way: u64, x: u64, j: usize) -> usiz
 }
 
 // The same for each of the entries from lo on; how many lost their slot.
-fn fill_second(conns: Records<Conn>, lo: usize, guess: &mut [u16], mask: u64, way: u64) -> usize
+fn fill_second(conns: Records<Conn>, lo: usize, guess: &mut [u16], mask: u64, way: Way) -> usize
     requires { (mask < 2 ^ 32) × (mask + 1 + mask / 4 < length guess.old) }
     ensures { (result ≤ many) × (length guess.new ≡ length guess.old) }
 {
@@ -186,20 +190,20 @@ fn fill_second(conns: Records<Conn>, lo: usize, guess: &mut [u16], mask: u64, wa
 
 // Fills both tables for the window from lo on, and says in which way the first was filled: one that loses no more than a fourth of the
 // entries, if there is one.
-pub fn fill_guesses(conns: Records<Conn>, lo: usize, guess: &mut [u16], mask: u64) -> u64
+pub fn fill_guesses(conns: Records<Conn>, lo: usize, guess: &mut [u16], mask: u64) -> Way
     requires { (lo ≤ conns.count) × (mask < 2 ^ 32) × (mask + 1 + mask / 4 < length guess.old) }
     ensures { length guess.new ≡ length guess.old }
 {
     let few = windowed(conns.count - lo) / 4;
-    for way in 0..2 {
+    for way in [Way::Plain, Way::Spread] {
         fill_first(conns, lo, guess, mask, way);
         if fill_second(conns, lo, guess, mask, way) <= few {
             return way;
         }
     }
-    fill_first(conns, lo, guess, mask, 2);
-    fill_second(conns, lo, guess, mask, 2);
-    2
+    fill_first(conns, lo, guess, mask, Way::SpreadAnew);
+    fill_second(conns, lo, guess, mask, Way::SpreadAnew);
+    Way::SpreadAnew
 }
 
 // Where x's entry is, or the number of entries: both guesses of the window from lo on are tried first.

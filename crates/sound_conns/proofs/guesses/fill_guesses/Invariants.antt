@@ -4,4 +4,4 @@ use lib.ListN.{length}
 use Rattle.sound_conns.proofs.guesses.fill_guesses.Given as goal
 
 abbrev pub invariant-loop-way : goal.invariant-loop-way
-invariant-loop-way l = (l.way ≤ 2) × (length l.guess ≡ length l.initial.guess)
+invariant-loop-way l = length l.guess ≡ length l.initial.guess
