@@ -7,7 +7,7 @@ ghost use Rattle.std.specs.Prelude.{◌≡◌, ◌+◌, ◌/◌, ◌^◌, ◌≤
 ghost use Rattle.words.specs.Words.{words, Decides};
 ghost use Rattle.sound_conns.specs.Conns.{names, Place, many};
 
-use crate::MANY;
+use crate::{MANY, Pass};
 use regions::listed::Records;
 use regions::{CONN, Conn};
 
@@ -66,26 +66,24 @@ fn ahead(half: usize, k: u64, x: u64) -> usize
 
 // The last of a window's entries whose connection is not above x, or the one behind it, or the window's first. (By halves: searches of
 // several rows overlap in the processor, and quarters, with three loads a step, were slower.)
-fn near(conns: Records<Conn>, lo: usize, x: u64) -> usize
-    requires { lo ≤ conns.count }
-{
-    let mut base = lo;
-    let mut wide = windowed(conns.count - lo);
+fn near(pass: Pass, x: u64) -> usize {
+    let mut base = pass.lo;
+    let mut wide = windowed(pass.conns.count - pass.lo);
     // the steps are the halvings of `wide`: no index counts
     while 1 < wide {
         let half = wide / 2;
-        base += ahead(half, words::get(conns.bytes, (base + half) * CONN), x);
+        base += ahead(half, words::get(pass.conns.bytes, (base + half) * CONN), x);
         wide -= half;
     }
     base
 }
 
 // Where x's entry is, or the number of entries: a search in the window from lo on, and one among all where that does not find it.
-fn seek_entry(conns: Records<Conn>, lo: usize, x: u64) -> usize
-    requires { lo ≤ conns.count }
-    ensures { Place (names conns.entry.count (words conns.entry.bytes.now)) conns.entry.count x result }
+fn seek_entry(pass: Pass, x: u64) -> usize
+    ensures { Place (names pass.entry.conns.count (words pass.entry.conns.bytes.now)) pass.entry.conns.count x result }
 {
-    let a = near(conns, lo, x);
+    let conns = pass.conns;
+    let a = near(pass, x);
     if is_entry(conns, a, x) {
         return a;
     }
@@ -144,16 +142,16 @@ fn wide(x: u16) -> usize
 }
 
 // Keeps for the entries from lo on where they are. (Of two that meet, the later.)
-fn fill_first(conns: Records<Conn>, lo: usize, guess: &mut [u16], mask: u64, way: Way)
+fn fill_first(pass: Pass, guess: &mut [u16], mask: u64, way: Way)
     requires { (mask < 2 ^ 32) × (mask + 1 + mask / 4 < length guess.old) }
     ensures { length guess.new ≡ length guess.old }
 {
-    for i in lo..conns.count {
-        let j = i - lo;
+    for i in pass.lo..pass.conns.count {
+        let j = i - pass.lo;
         if j >= MANY {
             return;
         }
-        let at = slot(words::get(conns.bytes, i * CONN), way, mask);
+        let at = slot(words::get(pass.conns.bytes, i * CONN), way, mask);
         guess[at] = j as u16;
     }
 }
@@ -173,53 +171,52 @@ fn give_second(guess: &mut [u16], mask: u64, way: Way, x: u64, j: usize) -> usiz
 }
 
 // The same for each of the entries from lo on; how many lost their slot.
-fn fill_second(conns: Records<Conn>, lo: usize, guess: &mut [u16], mask: u64, way: Way) -> usize
+fn fill_second(pass: Pass, guess: &mut [u16], mask: u64, way: Way) -> usize
     requires { (mask < 2 ^ 32) × (mask + 1 + mask / 4 < length guess.old) }
     ensures { (result ≤ many) × (length guess.new ≡ length guess.old) }
 {
     let mut lost = 0;
-    for i in lo..conns.count {
-        let j = i - lo;
+    for i in pass.lo..pass.conns.count {
+        let j = i - pass.lo;
         if j >= MANY {
             return lost;
         }
-        lost += give_second(guess, mask, way, words::get(conns.bytes, i * CONN), j);
+        lost += give_second(guess, mask, way, words::get(pass.conns.bytes, i * CONN), j);
     }
     lost
 }
 
 // Fills both tables for the window from lo on, and says in which way the first was filled: one that loses no more than a fourth of the
 // entries, if there is one.
-pub fn fill_guesses(conns: Records<Conn>, lo: usize, guess: &mut [u16], mask: u64) -> Way
-    requires { (lo ≤ conns.count) × (mask < 2 ^ 32) × (mask + 1 + mask / 4 < length guess.old) }
+pub fn fill_guesses(pass: Pass, guess: &mut [u16], mask: u64) -> Way
+    requires { (mask < 2 ^ 32) × (mask + 1 + mask / 4 < length guess.old) }
     ensures { length guess.new ≡ length guess.old }
 {
-    let few = windowed(conns.count - lo) / 4;
+    let few = windowed(pass.conns.count - pass.lo) / 4;
     for way in [Way::Plain, Way::Spread] {
-        fill_first(conns, lo, guess, mask, way);
-        if fill_second(conns, lo, guess, mask, way) <= few {
+        fill_first(pass, guess, mask, way);
+        if fill_second(pass, guess, mask, way) <= few {
             return way;
         }
     }
-    fill_first(conns, lo, guess, mask, Way::SpreadAnew);
-    fill_second(conns, lo, guess, mask, Way::SpreadAnew);
+    fill_first(pass, guess, mask, Way::SpreadAnew);
+    fill_second(pass, guess, mask, Way::SpreadAnew);
     Way::SpreadAnew
 }
 
 // Where x's entry is, or the number of entries: both guesses of the window from lo on are tried first.
-pub fn find_entry(conns: Records<Conn>, lo: usize, x: u64, guesses: Guesses) -> usize
-    requires { lo ≤ conns.count }
-    ensures { Place (names conns.entry.count (words conns.entry.bytes.now)) conns.entry.count x result }
+pub fn find_entry(pass: Pass, x: u64, guesses: Guesses) -> usize
+    ensures { Place (names pass.entry.conns.count (words pass.entry.conns.bytes.now)) pass.entry.conns.count x result }
 {
     let at = slot(x, guesses.way, guesses.mask);
-    let a = lo + wide(guesses.slots[at]);
-    if is_entry(conns, a, x) {
+    let a = pass.lo + wide(guesses.slots[at]);
+    if is_entry(pass.conns, a, x) {
         return a;
     }
     let to = second_slot(x, guesses.mask);
-    let b = lo + wide(guesses.slots[to]);
-    if is_entry(conns, b, x) {
+    let b = pass.lo + wide(guesses.slots[to]);
+    if is_entry(pass.conns, b, x) {
         return b;
     }
-    seek_entry(conns, lo, x)
+    seek_entry(pass, x)
 }

@@ -68,6 +68,20 @@ fn entries_fit(conns: Records<Conn>) -> bool
 
 // ---- counters
 
+// A pass over the rows: it counts the entries from lo on, as many as it has counters for, and takes the rows whose connection is above `done`
+// and not above `last`. (That the entries are fit by themselves stays a clause where it is asked: `Entries` goes by recursion, which the check does
+// not take for a ghost field.)
+#[derive(Clone, Copy)]
+pub struct Pass<'a> {
+    pub conns: Records<'a, Conn>,
+    pub lo: usize,
+    pub done: u64,
+    pub last: u64,
+    ghost within: { lo ≤ conns.count },
+    ghost rising: { Rising (names conns.count (words conns.bytes.now)) },
+    ghost held: { Holds done last (names conns.count (words conns.bytes.now)) lo many },
+}
+
 // The counter of an entry before a row is taken off it.
 fn charge(c: Conn) -> u32
     requires { ConnFits c }
@@ -76,18 +90,18 @@ fn charge(c: Conn) -> u32
     c.held as u32 + c.owned as u32 * HALF
 }
 
-// Gives the entries from lo on their counters, as far as there are any.
-fn charge_all(conns: Records<Conn>, lo: usize, t: &mut [u32])
-    requires { Each ConnFits (recs conn_size read_conn conns.count (words conns.bytes.now)) }
-    ensures { Within (λ c j. Left [] c (get_or t.new j 0)) (recs conn_size read_conn conns.entry.count (words conns.entry.bytes.now)) lo (length t.old)
+// Gives the pass's entries their counters, as far as there are any.
+fn charge_all(pass: Pass, t: &mut [u32])
+    requires { Each ConnFits (recs conn_size read_conn pass.conns.count (words pass.conns.bytes.now)) }
+    ensures { Within (λ c j. Left [] c (get_or t.new j 0)) (recs conn_size read_conn pass.entry.conns.count (words pass.entry.conns.bytes.now)) pass.entry.lo (length t.old)
         × (length t.new ≡ length t.old) }
 {
-    for i in lo..conns.count {
-        let j = i - lo;
+    for i in pass.lo..pass.conns.count {
+        let j = i - pass.lo;
         if j >= t.len() {
             return;
         }
-        let c = conns.get(i);
+        let c = pass.conns.get(i);
         t[j] = charge(c);
     }
 }
@@ -116,62 +130,39 @@ fn take_off(t: &mut [u32], lo: usize, k: usize, own: u32) -> bool
     true
 }
 
-// A pass over the rows: it counts the entries from lo on, and takes the rows whose connection is above `done` and not above `last`.
-#[derive(Clone, Copy)]
-struct Pass {
-    lo: usize,
-    done: u64,
-    last: u64,
-}
-
 // Whether x is above done and not above last: one branch for its caller, where two would be foretold badly.
 fn inside(pass: Pass, x: u64) -> bool
-    ensures { Decides result (Inside pass.done pass.last x) }
+    ensures { Decides result (Inside pass.entry.done pass.entry.last x) }
 {
     (pass.done < x) & (x <= pass.last)
 }
 
 // Takes a row of the connection x off its entry, if x is inside. False if x has no entry, or one with too little left.
-fn take_row(
-    conns: Records<Conn>,
-    t: &mut [u32],
-    guesses: Guesses,
-    pass: Pass,
-    x: u64,
-    own: u32,
-) -> bool
-    requires { Rising (names conns.count (words conns.bytes.now)) × (pass.lo ≤ conns.count)
-        × Holds pass.done pass.last (names conns.count (words conns.bytes.now)) pass.lo (length t.old) × (own ≤ 1) }
-    ensures { Taking result (names conns.entry.count (words conns.entry.bytes.now)) pass.done pass.last pass.lo x own t.old t.new × (length t.new ≡ length t.old) }
+fn take_row(pass: Pass, t: &mut [u32], guesses: Guesses, x: u64, own: u32) -> bool
+    requires { (length t.old ≤ many) × (own ≤ 1) }
+    ensures { Taking result (names pass.entry.conns.count (words pass.entry.conns.bytes.now)) pass.entry.done pass.entry.last pass.entry.lo x own t.old t.new × (length t.new ≡ length t.old) }
 {
     if !inside(pass, x) {
         return true;
     }
-    let k = guesses::find_entry(conns, pass.lo, x, guesses);
-    if k >= conns.count {
+    let k = guesses::find_entry(pass, x, guesses);
+    if k >= pass.conns.count {
         return false;
     }
     take_off(t, pass.lo, k, own)
 }
 
 // Takes the rows off the entries that the pass counts. False if a row inside has a connection without an entry, or an entry has fewer.
-fn count_rows(
-    rows: Records<Row>,
-    conns: Records<Conn>,
-    t: &mut [u32],
-    guesses: Guesses,
-    pass: Pass,
-) -> bool
-    requires { Rising (names conns.count (words conns.bytes.now))
-        × Within (λ e j. Left [] e (get_or t.old j 0)) (recs conn_size read_conn conns.count (words conns.bytes.now)) pass.lo (length t.old)
-        × (pass.lo ≤ conns.count) × Holds pass.done pass.last (names conns.count (words conns.bytes.now)) pass.lo (length t.old) }
-    ensures { Tallying result (names conns.entry.count (words conns.entry.bytes.now)) (recs row_size read_row rows.entry.count (words rows.entry.bytes.now))
-        (recs conn_size read_conn conns.entry.count (words conns.entry.bytes.now)) pass.done pass.last pass.lo t.new × (length t.new ≡ length t.old) }
+fn count_rows(rows: Records<Row>, pass: Pass, t: &mut [u32], guesses: Guesses) -> bool
+    requires { (length t.old ≤ many)
+        × Within (λ e j. Left [] e (get_or t.old j 0)) (recs conn_size read_conn pass.conns.count (words pass.conns.bytes.now)) pass.lo (length t.old) }
+    ensures { Tallying result (names pass.entry.conns.count (words pass.entry.conns.bytes.now)) (recs row_size read_row rows.entry.count (words rows.entry.bytes.now))
+        (recs conn_size read_conn pass.entry.conns.count (words pass.entry.conns.bytes.now)) pass.entry.done pass.entry.last pass.entry.lo t.new × (length t.new ≡ length t.old) }
 {
     for i in 0..rows.count {
         let r = rows.get(i);
         let own = u32::from(r.owns());
-        if !take_row(conns, t, guesses, pass, r.conn, own) {
+        if !take_row(pass, t, guesses, r.conn, own) {
             return false;
         }
     }
@@ -187,43 +178,31 @@ fn used_up(n: usize, lo: usize, t: &[u32]) -> bool
 
 // Whether each of the entries that t has a counter for has its rows' counts, and each connection inside has an entry. (Slots and mask go by
 // themselves till they are filled: `Guesses` holds them from there on.)
-fn window_fits(
-    rows: Records<Row>,
-    conns: Records<Conn>,
-    t: &mut [u32],
-    slots: &mut [u16],
-    mask: u64,
-    pass: Pass,
-) -> bool
-    requires { Entries (recs conn_size read_conn conns.count (words conns.bytes.now)) × (pass.lo ≤ conns.count)
-        × (mask < 2 ^ 32) × (mask + 1 + mask / 4 < length slots.old) × Holds pass.done pass.last (names conns.count (words conns.bytes.now)) pass.lo (length t.old) }
-    ensures { Decides result (Window (names conns.entry.count (words conns.entry.bytes.now)) (recs row_size read_row rows.entry.count (words rows.entry.bytes.now))
-        (recs conn_size read_conn conns.entry.count (words conns.entry.bytes.now)) pass.done pass.last pass.lo (length t.old)) }
+fn window_fits(rows: Records<Row>, pass: Pass, t: &mut [u32], slots: &mut [u16], mask: u64) -> bool
+    requires { Entries (recs conn_size read_conn pass.conns.count (words pass.conns.bytes.now)) × (length t.old ≤ many)
+        × (mask < 2 ^ 32) × (mask + 1 + mask / 4 < length slots.old) }
+    ensures { Decides result (Window (names pass.entry.conns.count (words pass.entry.conns.bytes.now)) (recs row_size read_row rows.entry.count (words rows.entry.bytes.now))
+        (recs conn_size read_conn pass.entry.conns.count (words pass.entry.conns.bytes.now)) pass.entry.done pass.entry.last pass.entry.lo (length t.old)) }
 {
-    charge_all(conns, pass.lo, t);
-    let way = guesses::fill_guesses(conns, pass.lo, slots, mask);
+    charge_all(pass, t);
+    let way = guesses::fill_guesses(pass, slots, mask);
     let guesses = Guesses { slots, mask, way };
-    if !count_rows(rows, conns, t, guesses, pass) {
+    if !count_rows(rows, pass, t, guesses) {
         return false;
     }
-    used_up(conns.count, pass.lo, t)
+    used_up(pass.conns.count, pass.lo, t)
 }
 
 // The same, with N counters and SLOTS slots on the stack.
-fn fits_with<const N: usize, const SLOTS: usize>(
-    rows: Records<Row>,
-    conns: Records<Conn>,
-    mask: u64,
-    pass: Pass,
-) -> bool
-    requires { Entries (recs conn_size read_conn conns.count (words conns.bytes.now)) × (pass.lo ≤ conns.count)
-        × (mask < 2 ^ 32) × (mask + 1 + mask / 4 < SLOTS) × (SLOTS < 2 ^ 32) × (N < 2 ^ 32) × Holds pass.done pass.last (names conns.count (words conns.bytes.now)) pass.lo N }
-    ensures { Decides result (Window (names conns.entry.count (words conns.entry.bytes.now)) (recs row_size read_row rows.entry.count (words rows.entry.bytes.now))
-        (recs conn_size read_conn conns.entry.count (words conns.entry.bytes.now)) pass.done pass.last pass.lo N) }
+fn fits_with<const N: usize, const SLOTS: usize>(rows: Records<Row>, pass: Pass, mask: u64) -> bool
+    requires { Entries (recs conn_size read_conn pass.conns.count (words pass.conns.bytes.now))
+        × (mask < 2 ^ 32) × (mask + 1 + mask / 4 < SLOTS) × (SLOTS < 2 ^ 32) × (N ≤ many) }
+    ensures { Decides result (Window (names pass.entry.conns.count (words pass.entry.conns.bytes.now)) (recs row_size read_row rows.entry.count (words rows.entry.bytes.now))
+        (recs conn_size read_conn pass.entry.conns.count (words pass.entry.conns.bytes.now)) pass.entry.done pass.entry.last pass.entry.lo N) }
 {
     let mut slots: [u16; SLOTS] = [0; SLOTS];
     let mut t: [u32; N] = [0; N];
-    window_fits(rows, conns, &mut t, &mut slots, mask, pass)
+    window_fits(rows, pass, &mut t, &mut slots, mask)
 }
 
 // The last connection of the many entries from lo on, or the greatest number if no entry is behind them.
@@ -248,17 +227,23 @@ pub fn conns_fit(rows: Records<Row>, conns: Records<Conn>) -> bool
     }
     if conns.count <= FEW {
         let all = Pass {
+            conns,
             lo: 0,
             done: 0,
             last: u64::MAX,
         };
-        return fits_with::<FEW, 2560>(rows, conns, FEW_MASK, all);
+        return fits_with::<FEW, 2560>(rows, all, FEW_MASK);
     }
     let mut done = 0;
     for lo in (0..conns.count).step_by(MANY) {
         let last = last_of(conns, lo);
-        let pass = Pass { lo, done, last };
-        if !fits_with::<MANY, 20480>(rows, conns, MANY_MASK, pass) {
+        let pass = Pass {
+            conns,
+            lo,
+            done,
+            last,
+        };
+        if !fits_with::<MANY, 20480>(rows, pass, MANY_MASK) {
             return false;
         }
         done = last;

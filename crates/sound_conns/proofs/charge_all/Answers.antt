@@ -12,16 +12,16 @@ use Rattle.sound_conns.proofs.charge_all.Goals as goal
 pub charge-requires : goal.charge-requires
 charge-requires c =
     let a = c.args in
-    conn-fits a.conns.count (words a.conns.bytes.now) c.loop-i.i (omega arith) c.get-c.ensures.words_are c.requires
+    conn-fits a.pass.conns.count (words a.pass.conns.bytes.now) c.loop-i.i (omega arith) c.get-c.ensures.words_are c.requires
 
 pub loop-i-preserved : goal.loop-i-preserved
 loop-i-preserved c =
     let a = c.args in
-    let e = length-set c.loop-i.t (c.loop-i.i - a.lo) c.charge.result in (
+    let e = length-set c.loop-i.t (c.loop-i.i - a.pass.lo) c.charge.result in (
       omega arith,
       omega (arith, e),
       e ∙ c.loop-i.invariant.2,
-      charged_turn a.conns.count (words a.conns.bytes.now) c.loop-i.i (omega arith) c.get-c.ensures.words_are a.lo
+      charged_turn a.pass.conns.count (words a.pass.conns.bytes.now) c.loop-i.i (omega arith) c.get-c.ensures.words_are a.pass.lo
           c.loop-i.t (omega arith) (omega arith) c.charge.ensures
           c.loop-i.invariant.3,
     )
@@ -29,4 +29,4 @@ loop-i-preserved c =
 pub returns : goal.returns
 returns c =
     let a = c.args in
-    (λ j h l. c.loop-i.invariant.3 j (omega (arith, length-recs conn_size read_conn a.conns.count (words a.conns.bytes.now))) l, search rules)
+    (λ j h l. c.loop-i.invariant.3 j (omega (arith, length-recs conn_size read_conn a.pass.conns.count (words a.pass.conns.bytes.now))) l, search rules)

@@ -8,5 +8,5 @@ use Rattle.sound_conns.specs.Conns.{Left, Within}
 use Rattle.sound_conns.proofs.charge_all.Given as goal
 
 abbrev pub invariant-loop-i : goal.invariant-loop-i
-invariant-loop-i l = (l.lo ≤ l.i) × (l.i - l.lo ≤ length l.t) × (length l.t ≡ length l.initial.t)
-    × Within (λ e j. Left [] e (get_or l.t j 0)) (recs conn_size read_conn l.conns.count (words l.conns.bytes.now)) l.lo (l.i - l.lo)
+invariant-loop-i l = (l.pass.lo ≤ l.i) × (l.i - l.pass.lo ≤ length l.t) × (length l.t ≡ length l.initial.t)
+    × Within (λ e j. Left [] e (get_or l.t j 0)) (recs conn_size read_conn l.pass.conns.count (words l.pass.conns.bytes.now)) l.pass.lo (l.i - l.pass.lo)

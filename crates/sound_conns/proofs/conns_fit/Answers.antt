@@ -15,20 +15,24 @@ returns-then-not-entries_fit c =
     let cs = recs conn_size read_conn a.conns.count (words a.conns.bytes.now) in
     λ s z. failed (Entries cs) c.entries_fit.result c.if-not-entries_fit.true-raw c.entries_fit.ensures.0 (conns-entries (recs row_size read_row a.rows.count (words a.rows.bytes.now)) cs s.fit z)
 
+pub invariant_of-all : goal.invariant_of-all
+invariant_of-all c =
+    let a = c.args in
+    let v = words a.conns.bytes.now in
+    let e = passed (Entries (recs conn_size read_conn a.conns.count v)) c.entries_fit.result c.if-not-entries_fit.false-raw c.entries_fit.ensures.0 in
+    let b = c.entries_fit.ensures.1 (not-false _ c.if-not-entries_fit.false-raw) in
+    record {
+      within = omega arith;
+      rising = entries-rising a.conns.count v e;
+      held = λ j h l. let m : 0 + j < a.conns.count = omega (arith, length-names a.conns.count v) in (entries-positive a.conns.count v e (0 + j) m, b (0 + j) l);
+    }
+
 pub fits_with-requires : goal.fits_with-requires
 fits_with-requires c =
     let a = c.args in
     let v = words a.conns.bytes.now in
     let e = passed (Entries (recs conn_size read_conn a.conns.count v)) c.entries_fit.result c.if-not-entries_fit.false-raw c.entries_fit.ensures.0 in
-    let b = c.entries_fit.ensures.1 (not-false _ c.if-not-entries_fit.false-raw) in (
-      e,
-      omega arith,
-      omega arith,
-      omega arith,
-      omega arith,
-      omega arith,
-      λ j h l. let m : 0 + j < a.conns.count = omega (arith, length-names a.conns.count v) in (entries-positive a.conns.count v e (0 + j) m, b (0 + j) l),
-    )
+    (e, omega arith, omega arith, omega arith, omega arith)
 
 pub returns-then-conns-le-FEW : goal.returns-then-conns-le-FEW
 returns-then-conns-le-FEW c =
@@ -62,9 +66,17 @@ fits_with-requires-in-loop-lo c =
       omega arith,
       omega arith,
       omega arith,
-      omega arith,
-      walked_holds (recs row_size read_row a.rows.count (words a.rows.bytes.now)) a.conns.count v c.loop-lo.invariant c.last_of-last.ensures,
     )
+
+pub invariant_of-pass : goal.invariant_of-pass
+invariant_of-pass c =
+    let a = c.args in
+    let v = words a.conns.bytes.now in
+    record {
+      within = omega arith;
+      rising = entries-rising a.conns.count v (passed (Entries (recs conn_size read_conn a.conns.count v)) c.entries_fit.result c.if-not-entries_fit.false-raw c.entries_fit.ensures.0);
+      held = walked_holds (recs row_size read_row a.rows.count (words a.rows.bytes.now)) a.conns.count v c.loop-lo.invariant c.last_of-last.ensures;
+    }
 
 pub returns-then-not-fits_with : goal.returns-then-not-fits_with
 returns-then-not-fits_with c =

@@ -13,7 +13,7 @@ use Rattle.sound_conns.proofs.count_rows.Goals as goal
 pub loop-i-init : goal.loop-i-init
 loop-i-init c =
     let a = c.args in
-    (omega arith, refl, tallied_none a.conns.count (words a.conns.bytes.now) (words a.rows.bytes.now) a.pass.done a.pass.last a.pass.lo a.t.now c.requires.1)
+    (omega arith, refl, tallied_none a.pass.conns.count (words a.pass.conns.bytes.now) (words a.rows.bytes.now) a.pass.done a.pass.last a.pass.lo a.t.now c.requires.1)
 
 pub returns-then-not-take_row : goal.returns-then-not-take_row
 returns-then-not-take_row c =
@@ -21,7 +21,7 @@ returns-then-not-take_row c =
     let e : c.take_row.result ≡ false = not-true _ c.if-not-take_row.true-raw in
     let own : c.from-own.result ≡ own_bit c.get-r.result = as_bit (c.get-r.result.bits / 8) c.from-own.ensures c.owns.ensures in
     let b = rw own at c.take_row.ensures in (
-      λ o. tallied_stop a.conns.count (words a.conns.bytes.now) (words a.rows.bytes.now) a.pass.done a.pass.last a.pass.lo c.loop-i.i
+      λ o. tallied_stop a.pass.conns.count (words a.pass.conns.bytes.now) (words a.rows.bytes.now) a.pass.done a.pass.last a.pass.lo c.loop-i.i
           c.loop-i.t c.get-r.result
           c.get-r.ensures.words_are
           c.loop-i.invariant.2 a.rows.count (omega arith) (rw b.1 at o) (rw e at b.0),
@@ -36,7 +36,7 @@ loop-i-preserved c =
     let b = rw own at c.take_row.ensures in (
       search rules,
       b.1 ∙ c.loop-i.invariant.1,
-      tallied_turn a.conns.count (words a.conns.bytes.now) (words a.rows.bytes.now) a.pass.done a.pass.last a.pass.lo c.loop-i.i
+      tallied_turn a.pass.conns.count (words a.pass.conns.bytes.now) (words a.rows.bytes.now) a.pass.done a.pass.last a.pass.lo c.loop-i.i
           c.loop-i.t c.get-r.result
           c.get-r.ensures.words_are
           c.loop-i.invariant.2 _ b.1 (rw e at b.0),

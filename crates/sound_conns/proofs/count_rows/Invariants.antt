@@ -7,5 +7,5 @@ use Rattle.sound_conns.specs.Conns.{names, Tallied}
 use Rattle.sound_conns.proofs.count_rows.Given as goal
 
 abbrev pub invariant-loop-i : goal.invariant-loop-i
-invariant-loop-i l = (l.i ≤ l.rows.count) × (length l.t ≡ length l.initial.t) × Tallied (names l.conns.count (words l.conns.bytes.now)) (recs row_size read_row l.i (words l.rows.bytes.now))
-    (recs conn_size read_conn l.conns.count (words l.conns.bytes.now)) l.pass.done l.pass.last l.pass.lo l.t
+invariant-loop-i l = (l.i ≤ l.rows.count) × (length l.t ≡ length l.initial.t) × Tallied (names l.pass.conns.count (words l.pass.conns.bytes.now)) (recs row_size read_row l.i (words l.rows.bytes.now))
+    (recs conn_size read_conn l.pass.conns.count (words l.pass.conns.bytes.now)) l.pass.done l.pass.last l.pass.lo l.t

@@ -12,23 +12,23 @@ pub returns-then-not-inside : goal.returns-then-not-inside
 returns-then-not-inside c =
     let a = c.args in (
       took_outside _ _ _ _ _ _ _ (failed (Inside a.pass.done a.pass.last a.x) c.inside.result c.if-not-inside.true-raw c.inside.ensures)
-          c.requires.2,
+          (λ j h l. a.pass.held j (omega arith) l),
       refl,
     )
 
-pub returns-then-k-conns : goal.returns-then-k-conns
-returns-then-k-conns c =
+pub returns-then-k-pass : goal.returns-then-k-pass
+returns-then-k-pass c =
     let a = c.args in
     let i = passed (Inside a.pass.done a.pass.last a.x) c.inside.result c.if-not-inside.false-raw c.inside.ensures in
-    (inl (i, c.find_entry-k.ensures.absent (omega arith) c.requires.0), refl)
+    (inl (i, c.find_entry-k.ensures.absent (omega arith) a.pass.rising), refl)
 
 pub returns : goal.returns
 returns c =
     let a = c.args in
-    let w = words a.conns.bytes.now in (
-      taking (names a.conns.count w) a.pass.done a.pass.last a.pass.lo a.x a.own a.t.now c.find_entry-k.result
-          c.take_off.new.t (omega (arith, length-names a.conns.count w))
+    let w = words a.pass.conns.bytes.now in (
+      taking (names a.pass.conns.count w) a.pass.done a.pass.last a.pass.lo a.x a.own a.t.now c.find_entry-k.result
+          c.take_off.new.t (omega (arith, length-names a.pass.conns.count w))
           (c.find_entry-k.ensures.found (omega arith)) c.take_off.result
-          c.requires.0 c.take_off.ensures.0,
+          a.pass.rising c.take_off.ensures.0,
       c.take_off.ensures.1,
     )
