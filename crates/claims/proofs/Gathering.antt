@@ -1,5 +1,5 @@
 -- Claims noted one behind the other, row by row.
-use Prim.Native.Nat.{ℕ, ◌+◌, ◌-◌, ◌*◌, ◌≤◌, ◌<◌}
+use Prim.Native.Nat.{ℕ, ◌+◌, ◌≤◌, ◌<◌}
 use mathlib.Core.Path.{◌≡◌, refl, sym, ap, ◌∙◌}
 use mathlib.Core.Bool.{true, false, ◌&&◌}
 use mathlib.Core.List.{List, [], ◌∷◌, ◌++◌, map, map-append, append-nil}
@@ -7,13 +7,12 @@ use native.Mathlib.Nat.{add-zero}
 use native.Mathlib.Numerals.{add-one}
 use native.Mathlib.Omega.{arith}
 use lib.Dec.{eqb}
-use lib.ListN.{length, take, drop, get_or, length-append, take-append-drop}
-use lib.Seq.{take-suc, take_all}
+use lib.ListN.{length, take, drop, get_or, set, length-append, length-take, take-append-drop}
+use lib.Seq.{take-suc, take-suc-set, take_all}
 use Rattle.ident.specs.declared.Kind.{Kind}
 use Rattle.ident.specs.declared.Kind.TheVariants.{Wtxid}
 use Rattle.ident.specs.Number.{top, Key, wtxid}
-use Rattle.ident.specs.Words.{hash_bytes}
-use Rattle.words.specs.Words.{digits, recs, splice}
+use Rattle.ident.specs.Words.{hash_num}
 use Rattle.regions.specs.declared.Row.{Row}
 use Rattle.regions.specs.Regions.{each}
 use Rattle.regions.proofs.Regions.{each_append}
@@ -31,27 +30,22 @@ use Rattle.store.specs.Shown.{Kept}
 use Rattle.requests.specs.Changes.{Tells}
 use Rattle.package_stages.specs.Changes.{combined_of}
 use Rattle.package_stages.proofs.Seeking.{holding}
-use Rattle.failing.specs.Changes.{first_hashes}
-use Rattle.failing.proofs.Copying.{hash_more}
-use Rattle.lent_lists.specs.Lists.{hashes_in}
-use Rattle.failing.proofs.Handing.{hashes_first}
-use Rattle.claims.specs.Awaited.{awaiting, claims_in, hash_of, sum_of, is_claim_row, claim_of, Noted, ClaimsNoted, ClaimsAre}
+use Rattle.claims.specs.declared.waiting.Claim.{Claim}
+use Rattle.claims.specs.Awaited.{awaiting, claims_in, hash_of, sum_of, is_claim_row, claim_of, noted_keys, noted_sums, Noted, ClaimsNoted}
 use Rattle.claims.proofs.Noting.{claim-yes, claim-no, awaiting-place, rows-claims, claims_few}
 
 -- ---- one claim more
 
-put_more : (u : List ℕ) (m a h : ℕ) {u' : List ℕ} → a ≡ m * hash_bytes → m < max_in_flight → hash_bytes * max_in_flight ≤ length u → h < top → u' ≡ splice u a (digits 256 hash_bytes h)
-    → first_hashes (m + 1) u' ≡ first_hashes m u ++ (h ∷ [])
-put_more u m a h {u'} e few room small q =
-    let z : a ≡ hash_bytes * m = omega arith in
-    ap (first_hashes (m + 1)) (q ∙ ap (λ (x : ℕ). splice u x (digits 256 hash_bytes h)) z) ∙ hash_more u m h small (omega arith)
+-- what is noted behind m others
+noted_more : (f : Claim → ℕ) (cs : List Claim) (m : ℕ) (c : Claim) → m < length cs → map f (take (m + 1) (set cs m c)) ≡ map f (take m cs) ++ (f c ∷ [])
+noted_more f cs m c l = ap (map f) (rw (add-one m) (take-suc-set cs m c l)) ∙ map-append f (take m cs) (c ∷ [])
 
 module _ (n : ℕ) (r : Row) {b : List ℕ} where
-  pub noted_none : {keys sums : List ℕ} {m : ℕ} → Tells b (λ t. is_claim_row n t r ≡ false) → Noted n r b keys keys sums sums m m
-  noted_none {keys} {sums} {m} e = record {
+  pub noted_none : {cs : List Claim} {m : ℕ} → Tells b (λ t. is_claim_row n t r ≡ false) → Noted n r b cs cs m m
+  noted_none {cs} {m} e = record {
     count = λ st s w. rw (claim-no n st.table r (e st s w)) (sym (add-zero m));
-    keys-are = λ st s w. rw (claim-no n st.table r (e st s w)) (sym (append-nil (first_hashes m keys)));
-    sums-are = λ st s w. rw (claim-no n st.table r (e st s w)) (sym (append-nil (first_hashes m sums)));
+    keys-are = λ st s w. rw (claim-no n st.table r (e st s w)) (sym (append-nil (noted_keys (take m cs))));
+    sums-are = λ st s w. rw (claim-no n st.table r (e st s w)) (sym (append-nil (noted_sums (take m cs))));
   }
 
   module _ (e : Tells b (λ t. is_claim_row n t r ≡ true)) {h : ℕ} {j : Kind} (small : h < top) (k : record { kind = j; hash = h } ≡ key_at r) where
@@ -70,41 +64,39 @@ module _ (n : ℕ) (r : Row) {b : List ℕ} where
         let z : j ≡ Wtxid = ap (λ (a : Key). a.kind) k ∙ ap (λ (a : Key). a.kind) (sym x) ∙ y.kind in
         sym k ∙ ap (λ (a : Kind). record { kind = a; hash = h }) z
 
-    pub noted_one : {keys sums : List ℕ} {m x : ℕ} {keys' sums' : List ℕ} (a d : ℕ) → a ≡ m * hash_bytes → d ≡ m * hash_bytes → Tells b (λ t. is_claim_row n t r ≡ true → m < max_in_flight)
-        → hash_bytes * max_in_flight ≤ length keys → hash_bytes * max_in_flight ≤ length sums → x < top
-        → Tells b (λ t. awaiting (at (wtxid h) t).«package» ≡ true → x ≡ combined_of (at (wtxid h) t).«package») → keys' ≡ splice keys a (digits 256 hash_bytes h)
-        → sums' ≡ splice sums d (digits 256 hash_bytes x) → Noted n r b keys keys' sums sums' m (m + 1)
-    noted_one {keys} {sums} {m} {x} {keys'} {sums'} a d ea ed few room-k room-s small-x is pk ps = record {
+    pub noted_one : {cs : List Claim} {m : ℕ} (c : Claim) → hash_num c.key ≡ h → m < length cs
+        → Tells b (λ t. awaiting (at (wtxid h) t).«package» ≡ true → hash_num c.combined ≡ combined_of (at (wtxid h) t).«package»)
+        → Noted n r b cs (set cs m c) m (m + 1)
+    noted_one {cs} {m} c its few is = record {
       count = λ st s w. rw (claim-yes n st.table r (e st s w));
       keys-are = λ st s w.
           let t = st.table in
           rw (claim-yes n t r (e st s w))
-          (put_more keys m a h ea (few st s w (e st s w)) room-k small pk ∙ ap (λ (y : ℕ). first_hashes m keys ++ (y ∷ []))
-          (ap (λ (y : Key). y.hash) k ∙ sym (ap (λ (y : Key). y.hash) (at_key (key_at r) 0 t small-key s.bounded.ordered))));
+          (noted_more (λ c. hash_num c.key) cs m c few ∙ ap (λ (y : ℕ). noted_keys (take m cs) ++ (y ∷ []))
+          (its ∙ ap (λ (y : Key). y.hash) k ∙ sym (ap (λ (y : Key). y.hash) (at_key (key_at r) 0 t small-key s.bounded.ordered))));
       sums-are = λ st s w.
           let t = st.table in
           let g : key_at r ≡ wtxid h = key-is st s w in
           let v : awaiting (at (wtxid h) t).«package» ≡ true = ap (λ (y : Key). awaiting (at y t).«package») (sym g) ∙ awaits_it st s w in
           rw (claim-yes n t r (e st s w))
-          (put_more sums m d x ed (few st s w (e st s w)) room-s small-x ps ∙ ap (λ (y : ℕ). first_hashes m sums ++ (y ∷ []))
+          (noted_more (λ c. hash_num c.combined) cs m c few ∙ ap (λ (y : ℕ). noted_sums (take m cs) ++ (y ∷ []))
           (is st s w v ∙ ap (λ (y : Key). combined_of (at y t).«package») (sym g)));
     }
 
 -- ---- the loop
 
 -- the claims among the first i rows are noted
-pub record Gathered (n : ℕ) (b k₀ keys s₀ sums : List ℕ) (m i : ℕ) : Type 0 where
-  pub long-keys : length keys ≡ length k₀
-  pub long-sums : length sums ≡ length s₀
+pub record Gathered (n : ℕ) (b : List ℕ) (cs : List Claim) (m i : ℕ) : Type 0 where
+  pub long : length cs ≡ max_in_flight
   pub count : Tells b (λ t. m ≡ length (each (claim_of n t) (take i (rows_of t))))
-  pub keys-are : Tells b (λ t. first_hashes m keys ≡ map hash_of (each (claim_of n t) (take i (rows_of t))))
-  pub sums-are : Tells b (λ t. first_hashes m sums ≡ map sum_of (each (claim_of n t) (take i (rows_of t))))
+  pub keys-are : Tells b (λ t. noted_keys (take m cs) ≡ map hash_of (each (claim_of n t) (take i (rows_of t))))
+  pub sums-are : Tells b (λ t. noted_sums (take m cs) ≡ map sum_of (each (claim_of n t) (take i (rows_of t))))
 
-pub gathered_none : (n : ℕ) (b keys sums : List ℕ) → Gathered n b keys keys sums sums 0 0
-unfolding each recs
-gathered_none n b keys sums = record { long-keys = refl; long-sums = refl; count = λ st s w. refl; keys-are = λ st s w. refl; sums-are = λ st s w. refl }
+pub gathered_none : (n : ℕ) (b : List ℕ) (cs : List Claim) → length cs ≡ max_in_flight → Gathered n b cs 0 0
+unfolding each
+gathered_none n b cs l = record { long = l; count = λ st s w. refl; keys-are = λ st s w. refl; sums-are = λ st s w. refl }
 
-module _ {n : ℕ} {b k₀ keys s₀ sums : List ℕ} {m i : ℕ} (g : Gathered n b k₀ keys s₀ sums m i) (r : Row) (inside : (st : State) → Writes b st → i < length (rows_of st.table))
+module _ {n : ℕ} {b : List ℕ} {cs : List Claim} {m i : ℕ} (g : Gathered n b cs m i) (r : Row) (inside : (st : State) → Writes b st → i < length (rows_of st.table))
     (is : (st : State) (d : Row) → Writes b st → r ≡ get_or (rows_of st.table) i d) where
   next : (st : State) → Writes b st → each (claim_of n st.table) (take (i + 1) (rows_of st.table)) ≡ each (claim_of n st.table) (take i (rows_of st.table)) ++ claim_of n st.table r
   unfolding each
@@ -128,10 +120,9 @@ module _ {n : ℕ} {b k₀ keys s₀ sums : List ℕ} {m i : ℕ} (g : Gathered 
       let v = ap length (rows-claims n t st s refl) in
       omega (arith, g.count st s w, claims_few n t t, s.bounded.owned n)
 
-  pub gathered_more : {keys' sums' : List ℕ} {v : ℕ} → length keys' ≡ length keys → length sums' ≡ length sums → Noted n r b keys keys' sums sums' m v → Gathered n b k₀ keys' s₀ sums' v (i + 1)
-  gathered_more {keys'} {sums'} {v} lk ls p = record {
-    long-keys = lk ∙ g.long-keys;
-    long-sums = ls ∙ g.long-sums;
+  pub gathered_more : {cs' : List Claim} {v : ℕ} → length cs' ≡ length cs → Noted n r b cs cs' m v → Gathered n b cs' v (i + 1)
+  gathered_more {cs'} {v} l p = record {
+    long = l ∙ g.long;
     count = λ st s w.
         let a = each (claim_of n st.table) (take i (rows_of st.table)) in
         let x = ap length (next st w) ∙ length-append a (claim_of n st.table r) in
@@ -142,25 +133,18 @@ module _ {n : ℕ} {b k₀ keys s₀ sums : List ℕ} {m i : ℕ} (g : Gathered 
         sym (ap (map sum_of) (next st w) ∙ map-append sum_of (each (claim_of n st.table) (take i (rows_of st.table))) (claim_of n st.table r));
   }
 
-pub gathered_done : {n : ℕ} {b k₀ keys s₀ sums : List ℕ} {m i : ℕ} → Gathered n b k₀ keys s₀ sums m i → Kept b → ((st : State) → Writes b st → length (rows_of st.table) ≤ i)
-    → ClaimsNoted n b keys sums m
-gathered_done {n} {b} {k₀} {keys} {s₀} {sums} {m} {i} g kept all = record {
-  few = let st = kept.state in
+module _ {n : ℕ} {b : List ℕ} {cs : List Claim} {m i : ℕ} (g : Gathered n b cs m i) (kept : Kept b) (all : (st : State) → Writes b st → length (rows_of st.table) ≤ i) where
+  whole : (st : State) → Sound st → Writes b st → each (claim_of n st.table) (take i (rows_of st.table)) ≡ claims_in n st.table
+  whole st s w = ap (each (claim_of n st.table)) (take_all i (rows_of st.table) (all st w)) ∙ rows-claims n st.table st s refl
+
+  pub gathered_few : m ≤ max_in_flight
+  gathered_few =
+      let st = kept.state in
       let v = ap length (whole st kept.sound kept.writes) in
-      omega (arith, g.count st kept.sound kept.writes, claims_few n st.table st.table, kept.sound.bounded.owned n);
-  keys-are = λ st s w. g.keys-are st s w ∙ ap (map hash_of) (whole st s w);
-  sums-are = λ st s w. g.sums-are st s w ∙ ap (map sum_of) (whole st s w);
-}
-  where
-    whole : (st : State) → Sound st → Writes b st → each (claim_of n st.table) (take i (rows_of st.table)) ≡ claims_in n st.table
-    whole st s w = ap (each (claim_of n st.table)) (take_all i (rows_of st.table) (all st w)) ∙ rows-claims n st.table st s refl
+      omega (arith, g.count st kept.sound kept.writes, claims_few n st.table st.table, kept.sound.bounded.owned n)
 
--- ---- the lists lent on
-
-pub claims-lent : {n : ℕ} {b : List ℕ} (keys sums : List ℕ) (m a : ℕ) → a ≡ m * hash_bytes → ClaimsNoted n b keys sums m → hash_bytes * max_in_flight ≤ length keys
-    → hash_bytes * max_in_flight ≤ length sums
-    → Tells b (λ t. ClaimsAre n t (hashes_in (take (a - 0) (drop 0 keys))) (hashes_in (take (a - 0) (drop 0 sums))))
-claims-lent keys sums m a e c room-k room-s st s w = record {
-  keys-are = hashes_first keys m a e (omega (arith, c.few)) ∙ c.keys-are st s w;
-  sums-are = hashes_first sums m a e (omega (arith, c.few)) ∙ c.sums-are st s w;
-}
+  pub gathered_done : ClaimsNoted n b (take m cs)
+  gathered_done = record {
+    few = omega (arith, length-take m cs, gathered_few);
+    are = λ st s w. record { keys-are = g.keys-are st s w ∙ ap (map hash_of) (whole st s w); sums-are = g.sums-are st s w ∙ ap (map sum_of) (whole st s w) };
+  }

@@ -8,12 +8,13 @@ use mathlib.Core.Option.{Option, none, some}
 use native.Mathlib.Numerals.{add-one}
 use native.Mathlib.Omega.{arith}
 use lib.Dec.{eqb}
-use lib.ListN.{length, drop, get_or, drop_of_length-le}
+use lib.ListN.{length, drop, get_or, length-map, drop_of_length-le}
 use lib.Seq.{drop-cons}
 use Rattle.std.specs.Prelude.{if◌then◌else◌}
 use Rattle.ident.specs.declared.Kind.{Kind}
 use Rattle.ident.specs.declared.Kind.TheVariants.{Wtxid}
 use Rattle.ident.specs.Number.{Key, wtxid}
+use Rattle.ident.specs.Words.{hash_num}
 use Rattle.machine.specs.State.{Package, Request, Table, owner_is, is_some}
 use Rattle.machine.specs.Package.{awaits_hash, claim_key}
 use Rattle.machine.specs.Sound.{All, Lawful}
@@ -21,7 +22,8 @@ use Rattle.machine.proofs.Tests.{test, never, and_left, and_right}
 use Rattle.package_stages.specs.Changes.{combined_of}
 use Rattle.package_stages.specs.Dead.{filter}
 use Rattle.package_stages.proofs.Seeking.{holding}
-use Rattle.claims.specs.Awaited.{awaiting, is_claim, claims_in, hash_of, sum_of, last_among, ClaimsAre}
+use Rattle.claims.specs.declared.waiting.Claim.{Claim}
+use Rattle.claims.specs.Awaited.{awaiting, is_claim, claims_in, hash_of, sum_of, last_among, noted_keys, noted_sums, ClaimsAre}
 use Rattle.claims.proofs.Noting.{awaiting-place}
 
 -- ---- the machine's
@@ -67,8 +69,8 @@ last_claim n c (q ∷ t) l =
           ∙ pick_none later q.key)
     ]
 
-pub last_given : {n : ℕ} {t : Table} {hs xs : List ℕ} (c : ℕ) → All Lawful t → ClaimsAre n t hs xs → last_among c hs xs ≡ claim_key n c t
-last_given {n} {t} {hs} {xs} c l a = ap (λ (z : List ℕ). last_among c z xs) a.keys-are ∙ ap (λ (z : List ℕ). last_among c (map hash_of (claims_in n t)) z) a.sums-are ∙ sym (last_claim n c t l)
+pub last_given : {n : ℕ} {t : Table} {cs : List Claim} (c : ℕ) → All Lawful t → ClaimsAre n t cs → last_among c (noted_keys cs) (noted_sums cs) ≡ claim_key n c t
+last_given {n} {t} {cs} c l a = ap (λ (z : List ℕ). last_among c z (noted_sums cs)) a.keys-are ∙ ap (λ (z : List ℕ). last_among c (map hash_of (claims_in n t)) z) a.sums-are ∙ sym (last_claim n c t l)
 
 -- ---- from the back
 
@@ -88,25 +90,37 @@ later_wins c (suc j) (h ∷ hs) [] k e = nothing_some (none_left c (drop j hs)) 
 later_wins c (suc j) (h ∷ hs) (x ∷ xs) k e = rw (later_wins c j hs xs k e)
 
 -- none of those from j on
-pub record NoneFrom (c : ℕ) (hs xs : List ℕ) (j : ℕ) : Type 0 where
-  pub most : j ≤ length hs
-  pub is : last_among c (drop j hs) (drop j xs) ≡ none
+pub record NoneFrom (c : ℕ) (cs : List Claim) (j : ℕ) : Type 0 where
+  pub most : j ≤ length cs
+  pub is : last_among c (drop j (noted_keys cs)) (drop j (noted_sums cs)) ≡ none
 
-pub none_yet : (c : ℕ) (hs xs : List ℕ) {j : ℕ} → j ≡ length hs → NoneFrom c hs xs j
+pub none_yet : (c : ℕ) (cs : List Claim) {j : ℕ} → j ≡ length cs → NoneFrom c cs j
 unfolding last_among
-none_yet c hs xs {j} e = record { most = omega arith; is = rw (drop_of_length-le hs {i = j} (omega arith)) }
+none_yet c cs {j} e = record { most = omega arith; is = rw (drop_of_length-le (noted_keys cs) {i = j} (rw length-map (omega arith))) }
 
-module _ {c : ℕ} {hs xs : List ℕ} {j : ℕ} (i : ℕ) (v : NoneFrom c hs xs j) (long : length xs ≡ length hs) (e : j ≡ i + 1) where
-  step_is : last_among c (drop i hs) (drop i xs) ≡ (if eqb (get_or xs i 0) c then some (wtxid (get_or hs i 0)) else none)
+-- a claim by its index
+claim_at : (f : Claim → ℕ) (cs : List Claim) (i : ℕ) (d : Claim) → i < length cs → get_or (map f cs) i 0 ≡ f (get_or cs i d)
+claim_at f [] i d h = absurd (omega arith)
+claim_at f (c ∷ cs) zero d h = refl
+claim_at f (c ∷ cs) (suc i) d h = claim_at f cs i d (omega arith)
+
+module _ {c : ℕ} {cs : List Claim} {j : ℕ} (i : ℕ) (v : NoneFrom c cs j) (e : j ≡ i + 1) (d : Claim) where
+  inside : i < length cs
+  inside = omega (arith, v.most)
+
+  abbrev x : Claim
+  x = get_or cs i d
+
+  step_is : last_among c (drop i (noted_keys cs)) (drop i (noted_sums cs)) ≡ (if eqb (hash_num x.combined) c then some (wtxid (hash_num x.key)) else none)
   unfolding last_among
   step_is =
-      let a : i < length hs = omega (arith, v.most) in
-      let d : i < length xs = omega (arith, v.most) in
+      let hs = noted_keys cs in
+      let xs = noted_sums cs in
       let z : last_among c (drop (suc i) hs) (drop (suc i) xs) ≡ none = rw (← add-one i, ← e) v.is in
-      rw (drop-cons hs i 0 a, drop-cons xs i 0 d, z)
+      rw (drop-cons hs i 0 (rw length-map inside), drop-cons xs i 0 (rw length-map inside), z, claim_at (λ c. hash_num c.key) cs i d inside, claim_at (λ c. hash_num c.combined) cs i d inside)
 
-  pub none_more : eqb (get_or xs i 0) c ≡ false → NoneFrom c hs xs i
+  pub none_more : eqb (hash_num x.combined) c ≡ false → NoneFrom c cs i
   none_more n = record { most = omega (arith, v.most); is = step_is ∙ rw n }
 
-  pub found_here : {h : ℕ} → eqb (get_or xs i 0) c ≡ true → h ≡ get_or hs i 0 → some (wtxid h) ≡ last_among c hs xs
-  found_here {h} y q = sym (later_wins c i hs xs (wtxid h) (step_is ∙ rw (y, q)))
+  pub found_here : eqb (hash_num x.combined) c ≡ true → some (wtxid (hash_num x.key)) ≡ last_among c (noted_keys cs) (noted_sums cs)
+  found_here y = sym (later_wins c i (noted_keys cs) (noted_sums cs) (wtxid (hash_num x.key)) (step_is ∙ rw y))

@@ -8,7 +8,7 @@ use mathlib.Core.Option.{Option, none, some}
 use native.Mathlib.Nat.{add-zero}
 use native.Mathlib.Numerals.{add-one}
 use native.Mathlib.Omega.{arith}
-use lib.ListN.{length, take, drop, get_or, length-append, length-drop, length-map, drop_of_length-le, take-append-drop}
+use lib.ListN.{length, take, drop, get_or, length-append, length-drop, drop_of_length-le, take-append-drop}
 use lib.Seq.{take_at, drop_at, take_all, drop-drop, take-suc}
 use Rattle.ident.specs.Number.{Key, wtxid}
 use Rattle.machine.specs.Limits.{Limits, word, max_parents, max_places}
@@ -38,7 +38,8 @@ use Rattle.lent_lists.proofs.Answer.{written_none, keys-append as keys_both}
 use Rattle.announcing.specs.Answers.{KeysListed}
 use Rattle.failing.proofs.Leaving.{told}
 use Rattle.failing.proofs.Releasing.{owner-is}
-use Rattle.claims.specs.Awaited.{claims_in, hash_of, sum_of, last_of, ClaimsAre, ClaimsFit, ListedOn}
+use Rattle.claims.specs.declared.waiting.Claim.{Claim}
+use Rattle.claims.specs.Awaited.{last_of, ClaimsNoted, ClaimsFit, ListedOn}
 use Rattle.claims.proofs.Naming.{somes, claim_given, claims_given, claims-given, holds_given, last_named, few_keys, somes_take, somes_before}
 
 -- ---- the part of a buffer behind c keys
@@ -220,14 +221,14 @@ module _ {b₀ b u₀ u : List ℕ} {n v : ℕ} {os : List (Option ℕ)} {i c : 
           | inr r ↦ omega (arith, f.listed.count st s kept.writes, (left st s).named, few_keys n t (take i os), somes_take i os, f.long)
         ]
 
-    pub failed-room : {hs xs : List ℕ} (o : Option ℕ) → i < length os → o ≡ get_or os i none → Tells b₀ (λ t. ClaimsAre n t hs xs) → (k : Key) → last_of o hs xs ≡ some k
+    pub failed-room : {cs : List Claim} (o : Option ℕ) → i < length os → o ≡ get_or os i none → ClaimsNoted n b₀ cs → (k : Key) → last_of o cs ≡ some k
         → Tells b (λ t. owner_is n (at k t).owner ≡ true → key_bytes * (c + (max_parents + 1)) ≤ length u)
-    failed-room {hs} {xs} o inside is a k e =
+    failed-room {cs} o inside is a k e =
         let st = kept.state in
         let s = kept.sound in
         let w = kept.writes in
         let t = st.table in
-        let g : claim_given n t o ≡ some k = sym (last_named o s.bounded.lawful (a st s w)) ∙ e in
+        let g : claim_given n t o ≡ some k = sym (last_named o s.bounded.lawful (a.are st s w)) ∙ e in
         let h = one_holds n t (claim_given n t o) k g (holds_given n (o ∷ []) t s.bounded.ordered) in
         let l = left st s in
         let more = somes_before n t k i os inside (ap (claim_given n t) (sym is) ∙ g) in
@@ -237,10 +238,10 @@ module _ {b₀ b u₀ u : List ℕ} {n v : ℕ} {os : List (Option ℕ)} {i c : 
           | inr r ↦ omega (arith, (Holds-on l.loosened k h).place q, place-counts k l.bounded, l.named, few_keys n t (take i os), more, f.listed.count st s w, f.long)
         ])
 
-  pub failed_more : {b' u' : List ℕ} {hs xs : List ℕ} {r : ℕ} (x : Option ℕ) → i < length os → x ≡ get_or os i none → Tells b₀ (λ t. ClaimsAre n t hs xs) → length b' ≡ length b
-      → length u' ≡ length u → ListedOn b b' u u' c r (λ m t. fail_each m n v (some_keys (last_of x hs xs ∷ [])) t)
+  pub failed_more : {b' u' : List ℕ} {cs : List Claim} {r : ℕ} (x : Option ℕ) → i < length os → x ≡ get_or os i none → ClaimsNoted n b₀ cs → length b' ≡ length b
+      → length u' ≡ length u → ListedOn b b' u u' c r (λ m t. fail_each m n v (some_keys (last_of x cs ∷ [])) t)
       → Failed b₀ b' u₀ u' n v os (i + 1) r
-  failed_more {b'} {u'} {hs} {xs} {r} x inside ex a lb ll l = record {
+  failed_more {b'} {u'} {cs} {r} x inside ex a lb ll l = record {
     size = lb ∙ f.size;
     long = ll ∙ f.long;
     listed = record {
@@ -259,16 +260,13 @@ module _ {b₀ b u₀ u : List ℕ} {n v : ℕ} {os : List (Option ℕ)} {i c : 
       first st = claims_given (limits_of st) n (take i os) v st.table
 
       rest : State → Listed
-      rest st = fail_each (limits_of st) n v (some_keys (last_of x hs xs ∷ [])) (claims_given (limits_of st) n (take i os) v st.table).table
+      rest st = fail_each (limits_of st) n v (some_keys (last_of x cs ∷ [])) (claims_given (limits_of st) n (take i os) v st.table).table
 
       whole : (st : State) → Sound st → Writes b₀ st → claims_given (limits_of st) n (take (i + 1) os) v st.table ≡ record { keys = (first st).keys ++ (rest st).keys; table = (rest st).table }
       whole st s w =
           claims_more (limits_of st) n v os i st.table inside
           ∙ ap (λ (o : Option Key). then (first st) (fail_each (limits_of st) n v (some_keys (o ∷ [])) (first st).table))
-          (ap (claim_given n st.table) (sym ex) ∙ sym (last_named x s.bounded.lawful (a st s w)))
-
-pub same_many : {n : ℕ} {t : Table} {hs xs : List ℕ} → ClaimsAre n t hs xs → length xs ≡ length hs
-same_many {n} {t} a = ap length a.sums-are ∙ length-map (claims_in n t) sum_of ∙ sym (ap length a.keys-are ∙ length-map (claims_in n t) hash_of)
+          (ap (claim_given n st.table) (sym ex) ∙ sym (last_named x s.bounded.lawful (a.are st s w)))
 
 pub failed_done : {b₀ b u₀ u : List ℕ} {n v : ℕ} {os : List (Option ℕ)} {i c : ℕ} (cs : List ℕ) → Failed b₀ b u₀ u n v os i c → length os ≤ i → somes os ≡ cs
     → KeysListed b₀ b u₀ u c (λ m t. failed_package_claims m n cs v t)

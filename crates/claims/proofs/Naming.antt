@@ -27,6 +27,7 @@ use Rattle.machine.proofs.Failing.{HoldsPlace, holds_claims}
 use Rattle.lent_lists.specs.Lists.{hashes_in}
 use Rattle.lent_lists.specs.Items.{items_in}
 use Rattle.std.specs.Borrow.{Bor}
+use Rattle.claims.specs.declared.waiting.Claim.{Claim}
 use Rattle.claims.specs.declared.waiting.Given.{Given}
 use Rattle.claims.specs.declared.waiting.Given.TheVariants.{Hashes, Items}
 use Rattle.claims.specs.Awaited.{ClaimsAre, package_named, entries_in, given_in, hash_found, last_of}
@@ -83,7 +84,7 @@ claims-given m n os v t = ap (λ (ks : List Key). fail_each m n v ks t) (keys-gi
 pub holds_given : (n : ℕ) (os : List (Option ℕ)) (t : Table) → Ordered 0 t → Each (HoldsPlace n t) (some_keys (map (claim_given n t) os))
 holds_given n os t o = subst (Each (HoldsPlace n t)) (sym (keys-given n t os)) (holds_claims n (somes os) t o)
 
-pub last_named : {n : ℕ} {t : Table} {hs xs : List ℕ} (o : Option ℕ) → All Lawful t → ClaimsAre n t hs xs → last_of o hs xs ≡ claim_given n t o
+pub last_named : {n : ℕ} {t : Table} {cs : List Claim} (o : Option ℕ) → All Lawful t → ClaimsAre n t cs → last_of o cs ≡ claim_given n t o
 last_named none l a = refl
 last_named (some c) l a = last_given c l a
 

@@ -22,7 +22,7 @@ use Rattle.store.specs.Image.{Writes}
 use Rattle.requests.specs.Changes.{Tells}
 use Rattle.package_stages.specs.Changes.{combined_of}
 use Rattle.package_stages.specs.Dead.{filter}
-use Rattle.failing.specs.Changes.{first_hashes}
+use Rattle.claims.specs.declared.waiting.Claim.{Claim}
 use Rattle.claims.specs.declared.waiting.Given.{Given}
 use Rattle.claims.specs.declared.waiting.Given.TheVariants.{Hashes, Items}
 
@@ -52,19 +52,29 @@ is_claim_row n t r = (eqb r.conn n && owns r) && awaiting (at (key_at r) t).«pa
 unfoldable pub claim_of : ℕ → Table → Row → Table
 claim_of n t r = if is_claim_row n t r then at (key_at r) t ∷ [] else []
 
--- ---- in two lists of hashes: of their keys, and the combined hashes of their packages
+-- ---- as they are noted
+
+abbrev pub noted_keys : List Claim → List ℕ
+noted_keys cs = map (λ c. hash_num c.key) cs
+
+abbrev pub noted_sums : List Claim → List ℕ
+noted_sums cs = map (λ c. hash_num c.combined) cs
 
 -- the claim of a row, if it is one, noted behind m others
-pub record Noted (n : ℕ) (r : Row) (b keys keys' sums sums' : List ℕ) (m w : ℕ) : Type 0 where
+pub record Noted (n : ℕ) (r : Row) (b : List ℕ) (cs cs' : List Claim) (m w : ℕ) : Type 0 where
   pub count : Tells b (λ t. w ≡ m + length (claim_of n t r))
-  pub keys-are : Tells b (λ t. first_hashes w keys' ≡ first_hashes m keys ++ map hash_of (claim_of n t r))
-  pub sums-are : Tells b (λ t. first_hashes w sums' ≡ first_hashes m sums ++ map sum_of (claim_of n t r))
+  pub keys-are : Tells b (λ t. noted_keys (take w cs') ≡ noted_keys (take m cs) ++ map hash_of (claim_of n t r))
+  pub sums-are : Tells b (λ t. noted_sums (take w cs') ≡ noted_sums (take m cs) ++ map sum_of (claim_of n t r))
+
+-- they are the claims of n, in the order of keys
+pub record ClaimsAre (n : ℕ) (t : Table) (cs : List Claim) : Type 0 where
+  pub keys-are : noted_keys cs ≡ map hash_of (claims_in n t)
+  pub sums-are : noted_sums cs ≡ map sum_of (claims_in n t)
 
 -- "no connection owns more than 100 requests"
-pub record ClaimsNoted (n : ℕ) (b keys sums : List ℕ) (m : ℕ) : Type 0 where
-  pub few : m ≤ max_in_flight
-  pub keys-are : Tells b (λ t. first_hashes m keys ≡ map hash_of (claims_in n t))
-  pub sums-are : Tells b (λ t. first_hashes m sums ≡ map sum_of (claims_in n t))
+pub record ClaimsNoted (n : ℕ) (b : List ℕ) (cs : List Claim) : Type 0 where
+  pub few : length cs ≤ max_in_flight
+  pub are : Tells b (λ t. ClaimsAre n t cs)
 
 -- the key of the last claim with the combined hash c
 unfoldable pub last_among : ℕ → List ℕ → List ℕ → Option Key
@@ -79,11 +89,6 @@ last_among c (h ∷ hs) (x ∷ xs) =
 abbrev pub key_found : std.Option Hash → Option Key
 key_found None = none
 key_found (Some h) = some (wtxid (hash_num h))
-
--- the claims of n, noted in the hashes hs and xs
-pub record ClaimsAre (n : ℕ) (t : Table) (hs xs : List ℕ) : Type 0 where
-  pub keys-are : hs ≡ map hash_of (claims_in n t)
-  pub sums-are : xs ≡ map sum_of (claims_in n t)
 
 -- ---- the combined hashes given: by the items that name a package, or else by each entry
 
@@ -102,9 +107,9 @@ abbrev pub hash_found : std.Option Hash → Option ℕ
 hash_found None = none
 hash_found (Some h) = some (hash_num h)
 
-abbrev pub last_of : Option ℕ → List ℕ → List ℕ → Option Key
-last_of none hs xs = none
-last_of (some c) hs xs = last_among c hs xs
+abbrev pub last_of : Option ℕ → List Claim → Option Key
+last_of none cs = none
+last_of (some c) cs = last_among c (noted_keys cs) (noted_sums cs)
 
 -- the buffer u has room for the parents of every place that is held, and for a key of each place or of each of the l hashes given
 abbrev pub ClaimsFit : ℕ → List ℕ → List ℕ → Type 0

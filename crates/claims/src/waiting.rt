@@ -3,12 +3,11 @@
 // The claims of the connection are noted before any fails: they are at most 100, since it owns no more requests, and one pass over the
 // rows finds them. Each hash that is given is then compared with theirs, whatever the number of places.
 //
-// While claims are noted, their keys and their sums are two slices: a struct over two `&mut` would need a clause in each contract that both references
-// stay. Connection and clock are arguments of their own, as document 01 gives them to each of these steps.
+// Connection and clock are arguments of their own, as document 01 gives them to each of these steps.
 ghost use Rattle.std.specs.Prelude.{◌≡◌, ◌+◌, ◌*◌, ◌≤◌, ◌<◌, true, [], ◌∷◌, length, get_or};
 ghost use Rattle.std.proofs.Math.Option.{none, some};
 ghost use Rattle.ident.specs.Number.{Key, wtxid};
-ghost use Rattle.ident.specs.Words.{hash_num, hash_bytes};
+ghost use Rattle.ident.specs.Words.{hash_num};
 ghost use Rattle.lent_lists.specs.Lists.{hashes_in};
 ghost use Rattle.lent_lists.specs.Items.{items_in};
 ghost use Rattle.machine.specs.Limits.{max_in_flight, max_parents, max_places, msg_pkg_txns};
@@ -21,10 +20,11 @@ ghost use Rattle.store.specs.Shown.{places_in, Kept};
 ghost use Rattle.requests.specs.Changes.{Tells};
 ghost use Rattle.package_stages.specs.Changes.{combined_of};
 ghost use Rattle.announcing.specs.Answers.{KeysListed};
-ghost use Rattle.claims.specs.Awaited.{awaiting, is_claim_row, Noted, ClaimsNoted, key_found, ClaimsAre, ListedOn, entries_in, given_in, hash_found, last_of, ClaimsFit};
+ghost use Rattle.claims.specs.Awaited.{awaiting, is_claim_row, Noted, key_found, ClaimsNoted, ListedOn, entries_in, given_in, hash_found, last_of, ClaimsFit};
 
 use ident::connection::Connection;
-use lent_lists::{KEY, LIST};
+use lent_lists::KEY;
+use machine::limits::MAX_PEER_IN_FLIGHT;
 use package_stages::Stage;
 
 // The item type of a package's transactions (BIP 331).
@@ -57,63 +57,67 @@ fn combined_of(s: &[u8], h: ident::Hash) -> ident::Hash
     }
 }
 
+// A claim of a connection: the hash of its key, and the combined hash of its package.
+#[derive(Clone, Copy)]
+struct Claim {
+    key: ident::Hash,
+    combined: ident::Hash,
+}
+
+// A connection has no more claims than this.
+const MOST: usize = MAX_PEER_IN_FLIGHT as usize;
+
+// Room for the claims of a connection.
+fn room() -> [Claim; MOST] {
+    let none = ident::Hash { words: [0; 4] };
+    let claim = Claim {
+        key: none,
+        combined: none,
+    };
+    [claim; MOST]
+}
+
 // Notes the claim of the row r, if it is one, behind m others; answers how many are noted then.
-fn note_claim(
-    s: &[u8],
-    n: u64,
-    r: regions::Row,
-    keys: &mut [u8],
-    sums: &mut [u8],
-    m: usize,
-) -> usize
-    requires { Kept s.now × (hash_bytes * max_in_flight ≤ length keys.old) × (hash_bytes * max_in_flight ≤ length sums.old) × Tells s.now (λ t. is_claim_row n t r ≡ true → m < max_in_flight) }
-    ensures { Noted n r s.now keys.old keys.new sums.old sums.new m result }
+fn note_claim(s: &[u8], n: u64, r: regions::Row, claims: &mut [Claim; MOST], m: usize) -> usize
+    requires { Kept s.now × Tells s.now (λ t. is_claim_row n t r ≡ true → m < max_in_flight) }
+    ensures { Noted n r s.now claims.old claims.new m result }
 {
     if is_claim(s, n, r) {
         let k = announcing::evict::key_of(r);
-        let h = k.hash;
-        let c = combined_of(s, h);
-        ident::put_hash(keys, m * ident::HASH_BYTES, h);
-        ident::put_hash(sums, m * ident::HASH_BYTES, c);
+        let key = k.hash;
+        let combined = combined_of(s, key);
+        claims[m] = Claim { key, combined };
         m + 1
     } else {
         m
     }
 }
 
-// Notes the claims of the connection n, in the order of keys; answers how many they are.
-fn claims_of(s: &[u8], n: u64, keys: &mut [u8], sums: &mut [u8]) -> usize
-    requires { Kept s.now × (hash_bytes * max_in_flight ≤ length keys.old) × (hash_bytes * max_in_flight ≤ length sums.old) }
-    ensures { ClaimsNoted n s.now keys.new sums.new result }
+// The claims of the connection n, in the order of keys.
+fn claims_of<'a>(s: &[u8], n: u64, room: &'a mut [Claim; MOST]) -> &'a [Claim]
+    requires { Kept s.now }
+    ensures { ClaimsNoted n s.now result.now }
 {
     let rows = store::head::rows(s);
     let mut m = 0;
     for i in 0..rows {
         let r = store::rows::row_at(s, i);
-        m = note_claim(s, n, r, keys, sums, m);
+        m = note_claim(s, n, r, room, m);
     }
-    m
-}
-
-// The claims of a connection that are noted, in the order of keys: the hashes of their keys, and the combined hashes of their packages.
-#[derive(Clone, Copy)]
-struct Claims<'a> {
-    keys: &'a [u8],
-    sums: &'a [u8],
-    ghost paired: { length (hashes_in sums.now) ≡ length (hashes_in keys.now) },
+    &room[..m]
 }
 
 // The last claim noted with the combined hash that is given, if one is: of two, that at the greater key.
-fn latest(claims: Claims, given: Option<ident::Hash>) -> Option<ident::Hash>
-    ensures { key_found result ≡ last_of (hash_found given) (hashes_in claims.entry.keys.now) (hashes_in claims.entry.sums.now) }
+fn latest(claims: &[Claim], given: Option<ident::Hash>) -> Option<ident::Hash>
+    ensures { key_found result ≡ last_of (hash_found given) claims.now }
 {
     let Some(c) = given else {
         return None;
     };
-    for j in (0..lent_lists::hashes(claims.keys)).rev() {
-        let x = lent_lists::hash_in(claims.sums, j);
-        if lent_lists::same_hash(x, c) {
-            return Some(lent_lists::hash_in(claims.keys, j));
+    for j in (0..claims.len()).rev() {
+        let claim = claims[j];
+        if lent_lists::same_hash(claim.combined, c) {
+            return Some(claim.key);
         }
     }
     None
@@ -150,15 +154,15 @@ fn fail_entry(
     n: Connection,
     given: Option<ident::Hash>,
     clock: u64,
-    claims: Claims,
+    claims: &[Claim],
     out: &mut [u8],
     c: usize,
 ) -> usize
     requires { Kept s.old × (key_bytes * c ≤ length out.old)
-        × ((k : Key) → last_of (hash_found given) (hashes_in claims.keys.now) (hashes_in claims.sums.now) ≡ some k
+        × ((k : Key) → last_of (hash_found given) claims.now ≡ some k
         → Tells s.old (λ t. owner_is n.number (at k t).owner ≡ true → key_bytes * (c + (max_parents + 1)) ≤ length out.old)) × (c ≤ (max_parents + 1) * max_places) }
     ensures { ListedOn s.old s.new out.old out.new c result
-        (λ m t. fail_each m n.number clock (some_keys (last_of (hash_found given) (hashes_in claims.entry.keys.now) (hashes_in claims.entry.sums.now) ∷ [])) t) }
+        (λ m t. fail_each m n.number clock (some_keys (last_of (hash_found given) claims.now ∷ [])) t) }
 {
     match latest(claims, given) {
         Some(h) => fail_claim(s, n, h, clock, out, c),
@@ -203,10 +207,10 @@ fn fail_given(
     n: Connection,
     given: Given,
     clock: u64,
-    claims: Claims,
+    claims: &[Claim],
     out: &mut [u8],
 ) -> usize
-    requires { Kept s.old × ClaimsFit (length (given_in given)) s.old out.old × Tells s.old (λ t. ClaimsAre n.number t (hashes_in claims.keys.now) (hashes_in claims.sums.now)) }
+    requires { Kept s.old × ClaimsFit (length (given_in given)) s.old out.old × ClaimsNoted n.number s.old claims.now }
     ensures { KeysListed s.old s.new out.old out.new result (λ m t. failed_package_claims m n.number (given_in given.entry) clock t) }
 {
     let count = entries(given);
@@ -223,14 +227,8 @@ fn fail_claims(s: &mut [u8], n: Connection, given: Given, clock: u64, out: &mut 
     requires { Kept s.old × ClaimsFit (length (given_in given)) s.old out.old }
     ensures { KeysListed s.old s.new out.old out.new result (λ m t. failed_package_claims m n.number (given_in given.entry) clock t) }
 {
-    let mut keys = [0; LIST];
-    let mut sums = [0; LIST];
-    let m = claims_of(s, n.number, &mut keys, &mut sums);
-    let e = m * ident::HASH_BYTES;
-    let claims = Claims {
-        keys: &keys[0..e],
-        sums: &sums[0..e],
-    };
+    let mut room = room();
+    let claims = claims_of(s, n.number, &mut room);
     fail_given(s, n, given, clock, claims, out)
 }
 

@@ -1,4 +1,5 @@
 use native.Mathlib.Omega.{arith}
+use mathlib.Core.Path.{sym, ◌∙◌}
 use Rattle.store.specs.Flat.{flat_of}
 use Rattle.store.proofs.Frame.{sizes}
 use Rattle.requests.proofs.Keeping.{kept_shown}
@@ -6,20 +7,17 @@ use Rattle.claims.proofs.Gathering.{gathered_none, gathered-room, gathered_more,
 use Rattle.claims.proofs.waiting.claims_of.Goals as goal
 
 pub rows-rows-requires : goal.rows-rows-requires
-rows-rows-requires c = omega (arith, sizes c.requires.0.writes)
+rows-rows-requires c = omega (arith, sizes c.requires.writes)
 
 pub loop-i-init : goal.loop-i-init
-loop-i-init c = gathered_none c.args.n c.args.s.now c.args.keys.now
-    c.args.sums.now
+loop-i-init c = gathered_none c.args.n c.args.s.now c.args.room.now c.told-room
 
 pub row_at-r-requires : goal.row_at-r-requires
-row_at-r-requires c = (kept_shown c.requires.0, omega (arith, c.rows-rows.ensures.word, c.loop-i-test.true))
+row_at-r-requires c = (kept_shown c.requires, omega (arith, c.rows-rows.ensures.word, c.loop-i-test.true))
 
 pub note_claim-m-requires : goal.note_claim-m-requires
 note_claim-m-requires c = (
-  c.requires.0,
-  omega (arith, c.requires.1, c.loop-i.invariant.long-keys),
-  omega (arith, c.requires.2, c.loop-i.invariant.long-sums),
+  c.requires,
   gathered-room c.loop-i.invariant c.row_at-r.result (λ st w.
       omega (arith, c.rows-rows.ensures.field (flat_of st) w, c.loop-i-test.true)) (λ st d w. c.row_at-r.ensures
       (flat_of st) d w),
@@ -32,9 +30,9 @@ loop-i-preserved c = gathered_more c.loop-i.invariant c.row_at-r.result
       c.rows-rows.ensures.field (flat_of st) w,
       c.loop-i-test.true,
     )) (λ st d w. c.row_at-r.ensures (flat_of st) d w)
-    (omega (arith, c.note_claim-m.auto)) (omega (arith, c.note_claim-m.auto))
+    (c.note_claim-m.array_long ∙ sym c.loop-i.invariant.long)
     c.note_claim-m.ensures
 
 pub returns : goal.returns
-returns c = gathered_done c.loop-i.invariant c.requires.0
+returns c = gathered_done c.loop-i.invariant c.requires
     (λ st w. omega (arith, c.rows-rows.ensures.field (flat_of st) w, c.loop-i-test.false))

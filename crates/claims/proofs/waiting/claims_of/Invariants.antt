@@ -2,4 +2,4 @@ use Rattle.claims.proofs.Gathering.{Gathered}
 use Rattle.claims.proofs.waiting.claims_of.Given as goal
 
 abbrev pub invariant-loop-i : goal.invariant-loop-i
-invariant-loop-i l = Gathered l.n l.s l.initial.keys l.keys l.initial.sums l.sums l.m l.i
+invariant-loop-i l = Gathered l.n l.s l.room l.m l.i

@@ -1,7 +1,6 @@
 use Rattle.ident.specs.Words.{hash_num}
-use Rattle.lent_lists.specs.Lists.{hashes_in}
 use Rattle.claims.proofs.LastOnes.{NoneFrom}
 use Rattle.claims.proofs.waiting.latest.Given as goal
 
 abbrev pub invariant-loop-j : goal.invariant-loop-j
-invariant-loop-j l = NoneFrom (hash_num l.c) (hashes_in l.claims.keys.now) (hashes_in l.claims.sums.now) l.j
+invariant-loop-j l = NoneFrom (hash_num l.c) l.claims l.j
