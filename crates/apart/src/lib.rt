@@ -11,6 +11,7 @@ ghost use Rattle.apart.specs.Apart.{slot_bytes, bare_bytes, SetApart, Rested, Pu
 
 use places::PLACE;
 use regions::{CONN, ROW};
+use store::layout;
 
 pub mod displacing;
 pub mod joining;
@@ -48,8 +49,8 @@ pub fn set_apart(s: &mut [u8], m: usize, first: &mut [u8; SLOT])
     let x = m - SLOT;
     first.copy_from_slice(&s[x..m]);
     words::clear(&mut s[x..m], 0, PLACE);
-    words::put(s, 2, 1);
-    words::put(s, 5, 0);
+    words::put(s, layout::PLACES, 1);
+    words::put(s, layout::HELD_PLACES, 0);
 }
 
 // Puts the n places back, and takes the dead ones out.
@@ -60,7 +61,7 @@ pub fn put_back(s: &mut [u8], m: usize, first: &[u8; SLOT], n: usize)
     let q = (s.len() - m) / SLOT + 1;
     let x = m - SLOT;
     s[x..m].copy_from_slice(first);
-    words::put(s, 2, q as u64);
-    words::put(s, 5, n as u64);
+    words::put(s, layout::PLACES, q as u64);
+    words::put(s, layout::HELD_PLACES, n as u64);
     package_stages::dead::drop_dead(s);
 }

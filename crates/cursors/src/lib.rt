@@ -14,6 +14,7 @@ ghost use Rattle.cursors.specs.InWords.{poll_at, known_at, ready_at, TagSays, cu
 
 use machine::clock::Clock;
 use machine::limits::REQUEST_POLL_INTERVAL;
+use store::layout::{KNOWN, NEXT_POLL, READY};
 
 #[derive(Clone, Copy)]
 pub struct Cursors {
@@ -24,29 +25,22 @@ pub struct Cursors {
 
 // ---- the words of the header
 
-// Where they stand: next poll, known cursor, ready cursor.
-const NEXT: usize = 6;
-
-pub const KNOWN: usize = 8;
-
-pub const READY: usize = 13;
-
 pub fn next_poll(s: &[u8]) -> Option<u64>
     requires { 8 * head_size ≤ length s.now }
     ensures { time_num result ≡ poll_is (get_or (words s.now) poll_at 0) (get_or (words s.now) (poll_at + 1) 0) }
 {
-    if words::get(s, NEXT) == 0 {
+    if words::get(s, NEXT_POLL) == 0 {
         return None;
     }
-    Some(words::get(s, NEXT + 1))
+    Some(words::get(s, NEXT_POLL + 1))
 }
 
 pub fn set_next_poll(s: &mut [u8], m: Option<u64>)
     requires { 8 * head_size ≤ length s.old }
     ensures { words s.new ≡ splice (words s.old) poll_at (poll_words (time_num m)) }
 {
-    words::put(s, NEXT, u64::from(m.is_some()));
-    words::put(s, NEXT + 1, m.unwrap_or(0));
+    words::put(s, NEXT_POLL, u64::from(m.is_some()));
+    words::put(s, NEXT_POLL + 1, m.unwrap_or(0));
 }
 
 // A cursor stands in five words from the word a on: a tag, and its hash. Tag 0 is no cursor, 1 a Txid, 2 a Wtxid: a number in a store's image (docs/STORE.md), and a

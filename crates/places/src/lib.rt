@@ -29,7 +29,7 @@ pub const WTXIDS: usize = 11;
 
 pub const PARENTS: usize = 411;
 
-// Words that are zero at rest.
+// Words behind its lists, zero at rest.
 pub const SPARE: usize = 811;
 
 // What the stage of a place can be: a place that is to go, which stands in no sound store; the flag; an Awaiting and an Enqueued package.

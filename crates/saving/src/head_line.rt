@@ -40,8 +40,8 @@ pub fn put_head(s: &[u8], out: &mut [u8]) -> usize
     let l = store::head::limit(s);
     let q = store::head::places(s);
     let next = cursors::next_poll(s);
-    let known = cursors::cursor_at(s, cursors::KNOWN);
-    let ready = cursors::cursor_at(s, cursors::READY);
+    let known = cursors::cursor_at(s, store::layout::KNOWN);
+    let ready = cursors::cursor_at(s, store::layout::READY);
     let e = put_number(out, 0, l as u64);
     let e = next_number(out, e, q as u64);
     let e = next_time(out, e, next);

@@ -99,7 +99,7 @@ pub fn phase_round(s: &mut [u8], clock: Clock, picks: &mut [usize], v: crate::Sc
     requires { Kept s.old × (max_request_checks < length picks.old) × (v.chosen ≤ max_request_checks) × (v.considered + rows_in s.old ≤ half) }
     ensures { Phased s.old s.new picks.old picks.new clock.time (λ st. round st.ready_cursor (keys st.table)) v result (rows_in s.old) }
 {
-    let c = cursors::cursor_at(s, cursors::READY);
+    let c = cursors::cursor_at(s, store::layout::READY);
     let from = sweeping::batch::after_cursor(s, c);
     let n = store::head::rows(s);
     let x = keys_over(s, clock, from, n, picks, opened(v));

@@ -11,6 +11,7 @@ use places::PLACE;
 use regions::listed::Records;
 use regions::{CONN, Conn, ROW, Row};
 use store::head::{self, HEAD};
+use store::layout::{FORMAT, KNOWN, NEXT_POLL, READY};
 
 mod owner; // owner.rt: the owner of a place
 mod place; // place.rt: package places
@@ -25,16 +26,7 @@ ghost use Rattle.sound.specs.Whole.{PollPlain, CursorPlain, SizesPlain, HeadPlai
 
 use place::{places_fit, same_hash};
 
-// Words of the header that are none of its sizes and counts: the format, the next poll and the two cursors, each a tag and what it goes with
-// (crates/cursors, which stands on no other test, has the same), and the first of those that are zero.
-const FORMAT: usize = 0;
-
-const POLL: usize = 6;
-
-const KNOWN: usize = 8;
-
-const READY: usize = 13;
-
+// The first of the header's words that are zero in every sound store.
 const SPARE: usize = 18;
 
 // ---- the header (its tags as numbers: the bytes may hold any, and the test is which of them name a case)
@@ -87,7 +79,7 @@ fn head_fits(s: &[u8]) -> bool
     if !sizes_fit(s) {
         return false;
     }
-    if !poll_fits(words::get(s, POLL), words::get(s, POLL + 1)) {
+    if !poll_fits(words::get(s, NEXT_POLL), words::get(s, NEXT_POLL + 1)) {
         return false;
     }
     if !cursor_fits(words::get(s, KNOWN), regions::read_quad(s, KNOWN + 1)) {

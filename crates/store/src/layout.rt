@@ -1,4 +1,4 @@
-// Where the counts stand in the header of a store, and where behind it its rows, connections and places lie (docs/STORE.md). A part is a range and no slice:
+// What stands where in the header of a store, and where behind it its rows, connections and places lie (docs/STORE.md). A part is a range and no slice:
 // some calls lend it to be read, others to be written.
 ghost use Rattle.store.specs.Shown.{Shown};
 ghost use Rattle.store.specs.Parts.{RowsPart, ConnsPart, PlacesPart};
@@ -8,7 +8,7 @@ use places::PLACE;
 use regions::{CONN, ROW};
 use std::ops::Range;
 
-// Words of the header: the format; L and Q; how many rows, connections and places are in use.
+// Words of the header: the format; L and Q; how many rows, connections and places are in use; next poll, in two words, and the cursors, in five each.
 pub const FORMAT: usize = 0;
 
 pub const LIMIT: usize = 1;
@@ -20,6 +20,12 @@ pub const ROWS: usize = 3;
 pub const CONNS: usize = 4;
 
 pub const HELD_PLACES: usize = 5;
+
+pub const NEXT_POLL: usize = 6;
+
+pub const KNOWN: usize = 8;
+
+pub const READY: usize = 13;
 
 // The bytes of the rows.
 pub fn rows_part(s: &[u8]) -> Range<usize>

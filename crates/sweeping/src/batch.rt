@@ -92,6 +92,6 @@ pub fn after_known(s: &[u8]) -> usize
     requires { Kept s.now }
     ensures { AfterKnown s.now result }
 {
-    let c = cursors::cursor_at(s, cursors::KNOWN);
+    let c = cursors::cursor_at(s, store::layout::KNOWN);
     after_cursor(s, c)
 }
