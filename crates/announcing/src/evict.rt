@@ -11,6 +11,8 @@ ghost use Rattle.store.specs.Shown.{rows_in, Shown, Kept};
 ghost use Rattle.requests.specs.Changes.{Tells};
 ghost use Rattle.announcing.specs.Evicts.{entry_at, found, is_lower, key_after, protected, or_row, greatest_over, part};
 
+use store::rows::Window;
+
 // Whether a row's candidate is preferred, or owns its request. (`|` has no branch.)
 pub fn stays(r: regions::Row) -> bool
     ensures { result ≡ protected r.bits }
@@ -70,13 +72,13 @@ fn greater(best: Option<regions::Row>, r: regions::Row) -> Option<regions::Row>
     Some(r)
 }
 
-// The greatest of what has been found and of the rows from .. to. (A range and no `Window`: the rows may be all, which are no key's.)
-fn greatest_in(s: &[u8], from: usize, to: usize, best: Option<regions::Row>) -> Option<regions::Row>
-    requires { Shown s.now × (from ≤ to) × (to ≤ rows_in s.now) }
-    ensures { (f : Flat) → Shows s.now f → found result ≡ greatest_over (found best) (part from to f.rows) }
+// The greatest of what has been found and of the rows of a window.
+fn greatest_in(s: &[u8], w: Window, best: Option<regions::Row>) -> Option<regions::Row>
+    requires { Shown s.now × (w.to ≤ rows_in s.now) }
+    ensures { (f : Flat) → Shows s.now f → found result ≡ greatest_over (found best) (part w.from w.to f.rows) }
 {
     let mut greatest = best;
-    for i in from..to {
+    for i in w.from..w.to {
         let r = store::rows::row_at(s, i);
         greatest = greater(greatest, r);
     }
@@ -99,8 +101,8 @@ pub fn victim_at(s: &[u8], h: ident::Hash) -> Option<regions::Row>
     });
     let x = requests::window_of(s, a);
     let y = requests::window_of(s, b);
-    let victim = greatest_in(s, x.from, x.to, None);
-    greatest_in(s, y.from, y.to, victim)
+    let victim = greatest_in(s, x, None);
+    greatest_in(s, y, victim)
 }
 
 // The victim of the whole table.
@@ -110,7 +112,8 @@ pub fn victim_anywhere(s: &[u8]) -> Option<regions::Row>
     ensures { Tells s.now (λ t. found result ≡ machine.greatest (machine.victims machine.anywhere t)) }
 {
     let n = store::head::rows(s);
-    greatest_in(s, 0, n, None)
+    let all = Window { from: 0, to: n };
+    greatest_in(s, all, None)
 }
 
 // How many candidates of the table can be evicted, in one pass.

@@ -6,6 +6,8 @@ ghost use Rattle.requests.specs.Changes.{Makes};
 ghost use Rattle.announcing.specs.Drops.{RowKept};
 ghost use Rattle.apart.specs.Silent.{Placeless, dropped_all, is_due};
 
+use store::rows::Window;
+
 // Whether the row says an owner whose time is over.
 pub fn is_due(r: regions::Row, clock: u64) -> bool
     ensures { result ≡ is_due clock r }
@@ -39,5 +41,6 @@ pub fn drop_due(s: &mut [u8], clock: u64)
     for i in 0..n {
         m = drop_row(s, m, i, clock);
     }
-    store::rows::drop_rows(s, m, n);
+    let rest = Window { from: m, to: n };
+    store::rows::drop_rows(s, rest);
 }

@@ -14,7 +14,7 @@ use Rattle.store.specs.Flat.{Flat, rows_of}
 use Rattle.store.specs.FlatSound.{owns}
 use Rattle.store.specs.Gather.{candidate_at}
 use Rattle.store.specs.Image.{Shows}
-use Rattle.requests.specs.declared.Window.{Window}
+use Rattle.store.specs.declared.rows.Window.{Window}
 use Rattle.requests.specs.Changes.{Spans, Tells}
 use Rattle.announcing.specs.Evicts.{entry_at, part}
 use Rattle.choosing.specs.declared.Pick.{Pick}

@@ -15,13 +15,14 @@ use Rattle.regions.specs.declared.Conn.{Conn}
 use Rattle.regions.specs.Order.{Sorted, Bound}
 use Rattle.regions.specs.Regions.{remove_at}
 use Rattle.machine.proofs.Tests.{test, order}
-use Rattle.store.specs.Flat.{Flat, own_bit, bump, tally}
+use Rattle.store.specs.Flat.{own_bit, bump, tally}
+use Rattle.store.specs.Counting.{adjusted}
 use Rattle.store.specs.Image.{Shows}
 use Rattle.store.specs.Shown.{conn_names, with_conns}
 use Rattle.store.proofs.Tally.{bump-nil, bump-lt, bump-eq, bump_gt, bump-swap, bump_tallied, Tallied, tally_tallied}
 use Rattle.store.proofs.Missing.{name_at}
 use Rattle.package_stages.specs.Dead.{filter}
-use Rattle.cutting.specs.Cuts.{lesser, lessen}
+use Rattle.cutting.specs.Cuts.{less, lessen}
 
 -- ---- rows that go are rows more of what is left
 
@@ -106,56 +107,13 @@ lessen_bumps n (suc d) l t = lessen-bump n d 0 (bumps n d l) (bumps_tallied n d 
 pub tally_left : (q : Row → Bool) (n d : ℕ) (rs : List Row) → Idle q n → length rs ≡ d + length (filter q rs) → tally (filter q rs) ≡ lessen n d (tally rs)
 tally_left q n d rs i e = sym (ap (lessen n d) (tally_more q n d rs i e) ∙ lessen_bumps n d (tally (filter q rs)) (tally_tallied (filter q rs)))
 
--- ---- where a search says
+-- ---- as the code does it
 
-module _ (x d : ℕ) where
-  lessen_there : (cs : List Conn) (i : ℕ) (c₀ : Conn) → ((j : ℕ) → j < i → get_or (conn_names cs) j 0 < x) → i < length cs → (get_or cs i c₀).conn ≡ x
-      → lessen x d cs ≡ take i cs ++ lesser d (get_or cs i c₀) (drop (suc i) cs)
-  unfolding lessen
-  lessen_there [] i c₀ b h e = absurd (omega arith)
-  lessen_there (c ∷ cs) zero c₀ b h e = rw (eq-eqb x c.conn (sym e))
-  lessen_there (c ∷ cs) (suc i) c₀ b h e = rw (ne_eqb x c.conn (λ z. omega (arith, b 0 (omega arith))), lessen_there cs i c₀ (λ j l. b (suc j) (omega arith)) (omega arith) e)
-
-  lessen-gone : (cs : List Conn) → ((j : ℕ) → j < length cs → get_or (conn_names cs) j 0 ≡ x → ⊥) → lessen x d cs ≡ cs
-  unfolding lessen
-  lessen-gone [] n = refl
-  lessen-gone (c ∷ cs) n = rw (ne_eqb x c.conn (λ z. n 0 (omega arith) (sym z)), lessen-gone cs (λ j l. n (suc j) (omega arith)))
-
-abbrev With : List ℕ → Flat → List Conn → Type 0
-With b f cs = Shows b (with_conns cs f)
-
-module _ (f : Flat) {x i : ℕ} (bd : Bound (conn_names f.conns) x i) (c₀ : Conn) (n : i < length f.conns → (get_or f.conns i c₀).conn ≡ x → ⊥) (so : Sorted (conn_names f.conns)) where
-  gone : (j : ℕ) → j < length f.conns → get_or (conn_names f.conns) j 0 ≡ x → ⊥
-  unfolding Sorted
-  gone j l z =
-      let cs = f.conns in
-      let m : length (conn_names cs) ≡ length cs = length-map cs (λ (c : Conn). c.conn) in
-      elim (order j i) [
-        | inl a ↦ omega (arith, bd.below j a)
-        | inr a ↦ let h : i ≤ j = elim a [ inl e ↦ omega arith | inr g ↦ omega arith ] in
-            let k : i < length cs = omega arith in
-            let above = bd.above i (le_refl i) (omega arith) in
-            let rest = so i j h (omega arith) in
-            let e : get_or (conn_names cs) i 0 ≡ x = omega arith in
-            n k (sym (name_at cs i c₀ k) ∙ e)
-      ]
-
-module _ {b' : List ℕ} (f : Flat) {x i : ℕ} (bd : Bound (conn_names f.conns) x i) (d : ℕ) (c₀ : Conn) where
-  module _ (l : i < length f.conns) (e : (get_or f.conns i c₀).conn ≡ x) (c : Conn) (k : c ≡ get_or f.conns i c₀) where
-    pub less_some : d < c.held → With b' f (set f.conns i (record { conn = c.conn; held = c.held - d; owned = c.owned })) → With b' f (lessen x d f.conns)
-    less_some h s =
-        let z : lesser d c (drop (suc i) f.conns) ≡ record { conn = c.conn; held = c.held - d; owned = c.owned } ∷ drop (suc i) f.conns = rw (lt-ltb d c.held h) in
-        let y = lessen_there x d f.conns i c₀ bd.below l e in
-        subst (With b' f)
-        (sym (y ∙ ap (λ (a : Conn). take i f.conns ++ lesser d a (drop (suc i) f.conns)) (sym k) ∙ ap (λ (a : List Conn). take i f.conns ++ a) z ∙ sym (set_split f.conns i _ l))) s
-
-    pub less_all : c.held ≤ d → With b' f (remove_at i f.conns) → With b' f (lessen x d f.conns)
-    unfolding remove_at
-    less_all h s =
-        let z : lesser d c (drop (suc i) f.conns) ≡ drop (suc i) f.conns = rw (le-ltb d c.held h) in
-        let y = lessen_there x d f.conns i c₀ bd.below l e in
-        subst (With b' f) (sym (y ∙ ap (λ (a : Conn). take i f.conns ++ lesser d a (drop (suc i) f.conns)) (sym k) ∙ ap (λ (a : List Conn). take i f.conns ++ a) z)) s
-
-  module _ (n : i < length f.conns → (get_or f.conns i c₀).conn ≡ x → ⊥) (so : Sorted (conn_names f.conns)) where
-    pub less_nothing : With b' f f.conns → With b' f (lessen x d f.conns)
-    less_nothing s = subst (With b' f) (sym (lessen-gone x d f.conns (gone f bd c₀ n so))) s
+pub lessen-is : (n d : ℕ) (cs : List Conn) → lessen n d cs ≡ adjusted n (less d) cs
+unfolding lessen adjusted
+lessen-is n d [] = refl
+lessen-is n d (c ∷ cs) =
+    elim (test (eqb n c.conn)) [
+      | inl a ↦ rw a (elim (test (ltb d c.held)) [ inl h ↦ rw h | inr h ↦ rw h ])
+      | inr a ↦ rw (a, lessen-is n d cs)
+    ]

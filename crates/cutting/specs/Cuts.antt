@@ -1,6 +1,6 @@
 -- The candidates of a connection cut under many keys at once: the machine's cuts one after the other, and what they come to
 -- in the table, in the rows and in the tally.
-use Rattle.std.specs.Prelude.{ℕ, ◌+◌, ◌-◌, ◌≡◌, Bool, not, ◌&&◌, List, [], ◌∷◌, ltb, eqb, length, if◌then◌else◌}
+use Rattle.std.specs.Prelude.{ℕ, ◌+◌, ◌-◌, ◌≡◌, Option, Some, None, Bool, not, ◌&&◌, List, [], ◌∷◌, ltb, eqb, length, if◌then◌else◌}
 use Rattle.ident.specs.Number.{Key, place}
 use Rattle.regions.specs.declared.Row.{Row}
 use Rattle.regions.specs.declared.Conn.{Conn}
@@ -69,6 +69,9 @@ pub record Dropped (q : Row → Bool) (b b' : List ℕ) (d : ℕ) : Type 0 where
   pub rows : (f : Flat) → Shows b f → Shows b' (with_rows (filter q f.rows) f)
 
 -- ---- the tally: d rows less of a connection, which did not own their requests
+
+abbrev pub less : ℕ → Conn → Option Conn
+less d c = if ltb d c.held then Some (record { conn = c.conn; held = c.held - d; owned = c.owned }) else None
 
 abbrev pub lesser : ℕ → Conn → List Conn → List Conn
 lesser d c l = if ltb d c.held then record { conn = c.conn; held = c.held - d; owned = c.owned } ∷ l else l

@@ -11,7 +11,7 @@ ghost use Rattle.regions.specs.declared.Row.{Row};
 ghost use Rattle.regions.specs.Rows.{row_size, row_words};
 ghost use Rattle.store.specs.Shown.{Shown, Kept, Tallies};
 ghost use Rattle.requests.specs.Changes.{Makes};
-ghost use Rattle.cutting.specs.Cuts.{between, cuts, row_in, row_key_in, stays, Dropped, lessen};
+ghost use Rattle.cutting.specs.Cuts.{between, cuts, row_in, row_key_in, stays, Dropped, less, lessen};
 
 use store::layout;
 
@@ -69,20 +69,22 @@ fn count_less(s: &mut [u8], x: u64, d: u64)
     requires { Shown s.old }
     ensures { Tallies s.old s.new (lessen x d) }
 {
-    let i = store::conns::seek_conn(s, x);
-    if store::counting::is_entry(s, i, x) {
-        let c = store::conns::conn_at(s, i);
-        if d < c.held {
-            let e = regions::Conn {
-                conn: c.conn,
-                held: c.held - d,
-                owned: c.owned,
-            };
-            store::conns::set_conn(s, i, e);
-        } else {
-            store::conns::drop_conn(s, i);
-        }
-    }
+    store::counting::adjust(
+        s,
+        x,
+        |c| -> Option<regions::Conn>
+            ensures { result ≡ less d c }
+        {
+            if d < c.held {
+                Some(regions::Conn {
+                    held: c.held - d,
+                    ..c
+                })
+            } else {
+                None
+            }
+        },
+    );
 }
 
 // The candidate of the connection n goes from every request under the keys from .. to that it does not own.

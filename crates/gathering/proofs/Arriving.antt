@@ -8,13 +8,14 @@ use Rattle.machine.specs.Limits.{max_announcements}
 use Rattle.machine.specs.State.{Entry, State}
 use Rattle.machine.specs.Sound.{Sound}
 use Rattle.store.specs.Flat.{flat_of, rows_of, tally}
+use Rattle.store.specs.Counting.{raise}
 use Rattle.store.specs.Image.{Shows, Writes}
 use Rattle.store.specs.Shown.{conns_in, limit_in, rows_in, Shown, with_conns, with_rows, Tallies}
 use Rattle.store.proofs.Counts.{held-rows}
 use Rattle.store.proofs.Entries.{tally-length}
 use Rattle.store.proofs.Frame.{sizes, shown}
 use Rattle.requests.proofs.Keeping.{kept_shown, rows_in_order, conns_in_order, sized_of, light_of}
-use Rattle.gathering.specs.Merges.{merged, gathered, raise, RowsAdded}
+use Rattle.gathering.specs.Merges.{merged, gathered, RowsAdded}
 use Rattle.gathering.specs.Waits.{pushes}
 use Rattle.gathering.specs.Aside.{space, Aside, Gathers, ComeIn}
 use Rattle.gathering.proofs.ComingIn.{came_in}

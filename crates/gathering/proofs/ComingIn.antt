@@ -13,6 +13,7 @@ use Rattle.machine.specs.Sound.{Ordered, Sound}
 use Rattle.machine.specs.Typed.{Each}
 use Rattle.machine.proofs.Table.{ordered-change}
 use Rattle.store.specs.Flat.{flat_of, row_of, rows_of, places_of, own_bit, tally}
+use Rattle.store.specs.Counting.{raise}
 use Rattle.store.specs.Image.{Shows, Writes}
 use Rattle.store.specs.Shown.{with_rows, with_conns}
 use Rattle.store.proofs.Bits.{own_row, conn-row}
@@ -20,7 +21,7 @@ use Rattle.store.proofs.RowsAt.{push_places}
 use Rattle.store.proofs.Tally.{tally-row}
 use Rattle.requests.proofs.Keeping.{writes_by}
 use Rattle.gathering.specs.Waits.{pushes, Ready, Idle}
-use Rattle.gathering.specs.Merges.{number_of, upto, beyond, merged, placed, gathered, raise}
+use Rattle.gathering.specs.Merges.{number_of, upto, beyond, merged, placed, gathered}
 use Rattle.gathering.proofs.Merging.{merged-cons, merged_none, length_merged, parted, placed_is, rows-merged}
 
 -- a row of the connection n that does not own its request

@@ -3,7 +3,6 @@ pub mod Merging
 pub mod Backwards
 pub mod Turning
 pub mod ComingIn
-pub mod Raising
 pub mod InOrder
 pub mod Looking
 pub mod Faring

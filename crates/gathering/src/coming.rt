@@ -2,7 +2,7 @@
 ghost use Rattle.words.specs.Words.{words};
 ghost use Rattle.gathering.specs.Aside.{Gathers, ComeIn};
 
-use crate::{tallying, together};
+use crate::together;
 use regions::Row;
 use regions::listed::Records;
 
@@ -15,5 +15,5 @@ pub fn come_in(s: &mut [u8], n: u64, new: Records<Row>)
         return;
     }
     together::add_rows(s, new);
-    tallying::count_more(s, n, new.count as u64);
+    store::counting::count_in(s, n, new.count as u64);
 }

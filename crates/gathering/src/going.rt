@@ -7,6 +7,7 @@ ghost use Rattle.announcing.specs.Falls.{goes_by, VictimsIn};
 ghost use Rattle.gathering.specs.Deferring.{Gone};
 
 use announcing::foremost::Victims;
+use store::rows::Window;
 
 // Whether the candidate of the row r goes if the victims up to the row v do. (A test of r by v and no order: it asks whether r stays anyway.)
 fn goes(v: regions::Row, r: regions::Row) -> bool
@@ -43,7 +44,8 @@ fn drop_victims(s: &mut [u8], top: &Victims, d: usize)
     for i in 0..n {
         k = drop_row(s, k, i, v);
     }
-    store::rows::drop_rows(s, k, n);
+    let rest = Window { from: k, to: n };
+    store::rows::drop_rows(s, rest);
 }
 
 // The same one after the other.

@@ -15,5 +15,4 @@ pub mod deferred;
 pub mod going;
 pub mod instead;
 pub mod region;
-pub mod tallying;
 pub mod together;

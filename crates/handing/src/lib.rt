@@ -24,6 +24,7 @@ ghost use Rattle.handing.specs.Hands.{conns_of, Peers, announce_for, Roomy, Keys
 use ident::connection::Connection;
 use lent_lists::{KEYS, LIST};
 use machine::limits::MAX_ALTERNATES;
+use store::rows::Window;
 
 fn no_keys() -> [u8; KEYS] {
     [0u8; KEYS]
@@ -123,7 +124,7 @@ fn search(s: &[u8], k: ident::Key, n: Connection) -> Lookup
     let r = package_stages::request_at(s, k);
     Lookup {
         is_owner: r.is_owned_by(n.number),
-        next: r.to,
+        next: r.rows.to,
     }
 }
 
@@ -136,7 +137,8 @@ fn look_up(s: &[u8], k: ident::Key, n: Connection, guess: Option<usize>) -> Look
     let rows = store::head::rows(s);
     let from = guess.unwrap_or(rows);
     if from < rows {
-        let i = store::rows::find_row(s, from, rows, n.number);
+        let rest = Window { from, to: rows };
+        let i = store::rows::find_row(s, rest, n.number);
         if i < rows {
             let r = store::rows::row_at(s, i);
             if regions::Key::from(r) == regions::Key::from(k) {

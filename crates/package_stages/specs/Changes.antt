@@ -62,7 +62,7 @@ pub record RequestOf (q : machine.Request) (r : Request) : Type 0 where
   pub mark : r.mark ≡ q.fallback
 
 pub record RequestAt (b : List ℕ) (k : Key) (r : Request) : Type 0 where
-  pub spans : Spans b (place k) r.from r.to
+  pub spans : Spans b (place k) r.rows.from r.rows.to
   pub is : Tells b (λ t. RequestOf (at k t) r)
 
 -- ---- the owner among rows

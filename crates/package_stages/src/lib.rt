@@ -36,6 +36,7 @@ ghost use Rattle.package_stages.specs.Changes.{
 
 use machine::limits::MAX_PARENTS;
 use places::{AWAITING, ENQUEUED, FLAG};
+use store::rows::Window;
 
 pub mod dead;
 pub mod flat;
@@ -100,11 +101,10 @@ pub struct Owner {
     pub deadline: u64,
 }
 
-// Its rows are from .. to. (The mark is the request's own: no other field stands or falls with it.)
+// (The mark is the request's own: no other field stands or falls with it.)
 #[derive(Clone, Copy)]
 pub struct Request {
-    pub from: usize,
-    pub to: usize,
+    pub rows: Window,
     pub owner: Option<Owner>,
     pub stage: Option<Stage>,
     pub mark: bool,
@@ -127,12 +127,12 @@ impl Request {
     }
 }
 
-// Whom the rows from .. to name as owner.
-fn owner_in(s: &[u8], from: usize, to: usize) -> Option<Owner>
-    requires { Shown s.now × (from ≤ to) × (to ≤ rows_in s.now) }
-    ensures { OwnerAmong s.now from to result }
+// Whom the rows of a window name as owner.
+fn owner_in(s: &[u8], w: Window) -> Option<Owner>
+    requires { Shown s.now × (w.to ≤ rows_in s.now) }
+    ensures { OwnerAmong s.now w.from w.to result }
 {
-    for i in from..to {
+    for i in w.from..w.to {
         let r = store::rows::row_at(s, i);
         if r.owns() {
             return Some(Owner {
@@ -164,15 +164,12 @@ pub fn request_at(s: &[u8], k: ident::Key) -> Request
     ensures { RequestAt s.now (key_num k) result }
 {
     let key = regions::Key::from(k);
-    let w = requests::window_of(s, key);
-    let from = w.from;
-    let to = w.to;
-    let owner = owner_in(s, from, to);
+    let rows = requests::window_of(s, key);
+    let owner = owner_in(s, rows);
     let stage = stage_at(s, k);
-    let mark = requests::mark_in(s, from, to);
+    let mark = requests::mark_in(s, rows.from, rows.to);
     Request {
-        from,
-        to,
+        rows,
         owner,
         stage,
         mark,

@@ -136,10 +136,10 @@ module _ {b₀ b : List ℕ} {from i to : ℕ} (k : Kept b₀) (c : CountedOut b
 
 -- all of them: they can be taken out
 pub all_out : {b₀ b : List ℕ} {from to : ℕ} → Kept b₀ → from ≤ to → to ≤ rows_in b₀ → length b ≡ length b₀
-    → ((st : State) → Sound st → Writes b₀ st → Shorn b st (rows_of st.table) (remove_range from to (rows_of st.table))) → Shown b × (from ≤ to) × (to ≤ rows_in b)
+    → ((st : State) → Sound st → Writes b₀ st → Shorn b st (rows_of st.table) (remove_range from to (rows_of st.table))) → Shown b × (to ≤ rows_in b)
 all_out {b₀} {b} {from} {to} k h l e x =
     let c : CountedOut b₀ b from to to = record { least = h; most = omega arith; long = e; shorn = x } in
-    (out_shown k c l, h, omega (arith, out_rows k c l))
+    (out_shown k c l, omega (arith, out_rows k c l))
 
 -- ---- a request goes whole
 

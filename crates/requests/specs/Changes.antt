@@ -2,17 +2,13 @@
 use Rattle.std.specs.Prelude.{ℕ, ◌+◌, ◌/◌, ◌%◌, ◌≤◌, ◌<◌, ◌≡◌, Bool, true, false, List, ltb, get_or, if◌then◌else◌}
 use Rattle.std.specs.Prelude.{Option, Some, None}
 use Rattle.std.proofs.Math.Option.{none}
-use Rattle.ident.specs.declared.Hash.{Hash}
 use Rattle.ident.specs.declared.ItemKind.{ItemKind}
-use Rattle.ident.specs.declared.Key.{Key}
-use Rattle.ident.specs.Number.{top, place, kind_number}
-use Rattle.ident.specs.Words.{hash_num, key_num, item_num}
-use Rattle.regions.specs.declared.Quad.{Quad}
+use Rattle.ident.specs.Words.{item_num}
 use Rattle.regions.specs.declared.Key.{Key as RowKey}
 use Rattle.regions.specs.declared.Row.{Row}
 use Rattle.regions.specs.Order.{Bound}
 pub use Rattle.regions.specs.Keys.{Words, KeyWords}
-use Rattle.regions.specs.Rows.{quad_of, key_number}
+use Rattle.regions.specs.Rows.{quad_of}
 use Rattle.machine.specs.State as machine
 use Rattle.machine.specs.State.{Table, State, Request, on_table, owner_is, adopting}
 use Rattle.machine.specs.Table.{one, held_by, owned_by}

@@ -8,7 +8,7 @@ ghost use Rattle.std.specs.Prelude.{◌≡◌, ◌+◌, ◌-◌, ◌≤◌, ◌<
 ghost use Rattle.std.proofs.Math.Option.{none};
 ghost use Rattle.ident.specs.Words.{hash_num, key_num};
 ghost use Rattle.machine.specs.Limits.{max_announcements};
-ghost use Rattle.regions.specs.Rows.{key_number, with_deadline, with_bits};
+ghost use Rattle.regions.specs.Rows.{key_number, with_deadline, with_bits, with_ready};
 ghost use Rattle.machine.specs.State.{owner_is, owned_until, unowned, with_candidates, ready_at};
 ghost use Rattle.machine.specs.Table.{at, change, has, held_at, is_candidate, one};
 ghost use Rattle.machine.specs.Announce as machine;
@@ -16,9 +16,11 @@ ghost use Rattle.machine.specs.Fail as fail;
 ghost use Rattle.ident.specs.Number.{kind_number};
 ghost use Rattle.store.specs.Flat.{witness_bit};
 ghost use Rattle.store.specs.Shown.{limit_in, rows_in, Kept, Shown};
+ghost use Rattle.store.specs.Stamps.{marked_row};
 ghost use Rattle.requests.specs.Changes.{candidate_of, Spans, FoundAmong, MarkIn, RowFor, witness_as, RowAdopting, OwnedBare, FiguresOf, Makes, Tells};
 
 use std::ops::Bound;
+pub use store::rows::Window;
 
 pub mod whole;
 
@@ -30,14 +32,6 @@ pub struct Candidate {
     pub ready: u64,
     pub preferred: bool,
     pub priority: u64,
-}
-
-// Where the rows of a key stand. It is passed on by copy, as a Range of std is not.
-#[derive(Clone, Copy)]
-pub struct Window {
-    pub from: usize,
-    pub to: usize,
-    ghost order: { from ≤ to },
 }
 
 // ---- keys and bits as rows have them
@@ -67,6 +61,7 @@ pub fn new_row(k: regions::Key, c: Candidate, mark: bool) -> regions::Row
 
 // ---- the rows of a key
 
+// Where they stand.
 pub fn window_of(s: &[u8], k: regions::Key) -> Window
     requires { Kept s.now }
     ensures { Spans s.now (key_number k) result.from result.to }
@@ -90,7 +85,7 @@ fn find_row(s: &[u8], k: regions::Key, n: u64) -> Option<usize>
     ensures { FoundAmong s.now (key_number k) n result }
 {
     let w = window_of(s, k);
-    let i = store::rows::find_row(s, w.from, w.to, n);
+    let i = store::rows::find_row(s, w, n);
     if i < w.to { Some(i) } else { None }
 }
 
@@ -109,15 +104,13 @@ pub fn figures(s: &[u8], n: u64) -> regions::Conn
     requires { Kept s.now }
     ensures { Tells s.now (λ t. FiguresOf t n result.held result.owned) }
 {
-    let i = store::conns::seek_conn(s, n);
-    if store::counting::is_entry(s, i, n) {
-        store::conns::conn_at(s, i)
-    } else {
-        regions::Conn {
+    match store::counting::find(s, n) {
+        Ok(i) => store::conns::conn_at(s, i),
+        Err(_) => regions::Conn {
             conn: n,
             held: 0,
             owned: 0,
-        }
+        },
     }
 }
 
@@ -165,7 +158,7 @@ pub fn push(s: &mut [u8], k: ident::Key, c: Candidate)
     let mark = mark_in(s, w.from, w.to);
     let r = new_row(key, c, mark);
     store::rows::add_row(s, w.to, r);
-    store::counting::count_in(s, c.connection);
+    store::counting::count_in(s, c.connection, 1);
 }
 
 // Takes the candidate of the connection n out of the request at k, which it does not own.
@@ -277,7 +270,13 @@ pub fn ready_all(s: &mut [u8], k: ident::Key, v: u64)
 {
     let key = regions::Key::from(k);
     let w = window_of(s, key);
-    store::stamps::ready_rows(s, w.from, w.to, v);
+    store::stamps::change_rows(
+        s,
+        w,
+        |r| -> regions::Row
+            ensures { result ≡ with_ready v r }
+        { regions::Row { ready: v, ..r } },
+    );
 }
 
 // The request at k, if there is one, gets the fallback mark.
@@ -287,5 +286,16 @@ pub fn mark(s: &mut [u8], k: ident::Key)
 {
     let key = regions::Key::from(k);
     let w = window_of(s, key);
-    store::stamps::mark_rows(s, w.from, w.to);
+    store::stamps::change_rows(
+        s,
+        w,
+        |r| -> regions::Row
+            ensures { result ≡ marked_row r }
+        {
+            regions::Row {
+                bits: r.bits % 16 + 16,
+                ..r
+            }
+        },
+    );
 }

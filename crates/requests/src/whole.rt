@@ -12,12 +12,12 @@ ghost use Rattle.store.specs.Image.{Writes};
 ghost use Rattle.store.specs.Shown.{rows_in, Kept};
 ghost use Rattle.requests.specs.Changes.{Makes, Shorn};
 
-// The rows from .. to, which are still there, are counted no more.
-fn count_out_rows(s: &mut [u8], from: usize, to: usize)
-    requires { Kept s.old × (from ≤ to) × (to ≤ rows_in s.old) }
-    ensures { (st : State) → Sound st → Writes s.old st → Shorn s.new st (rows_of st.table) (remove_range from to (rows_of st.table)) }
+// The rows of a window, which are still there, are counted no more.
+fn count_out_rows(s: &mut [u8], w: store::rows::Window)
+    requires { Kept s.old × (w.to ≤ rows_in s.old) }
+    ensures { (st : State) → Sound st → Writes s.old st → Shorn s.new st (rows_of st.table) (remove_range w.from w.to (rows_of st.table)) }
 {
-    for i in from..to {
+    for i in w.from..w.to {
         let r = store::rows::row_at(s, i);
         store::counting::count_out(s, r.conn, u64::from(r.owns()));
     }
@@ -30,8 +30,6 @@ pub fn drop_all(s: &mut [u8], k: ident::Key)
 {
     let key = regions::Key::from(k);
     let w = crate::window_of(s, key);
-    let from = w.from;
-    let to = w.to;
-    count_out_rows(s, from, to);
-    store::rows::drop_rows(s, from, to);
+    count_out_rows(s, w);
+    store::rows::drop_rows(s, w);
 }

@@ -116,21 +116,21 @@ few_rows k = let z = (kept_shown k).sized in omega (arith, z.limit, z.rows_few, 
 
 module _ {b u₀ u : List ℕ} {a i e : ℕ} (v : Walked b u₀ u a i e) (l : i < rows_in b) {r : Row} (row : (f : Flat) (d : Row) → Shows b f → r ≡ get_or f.rows i d)
     (k : Key) (key : k ≡ key_at r) {q : RequestRead} (x : RequestAt b k q) where
-  pub next_of : (st : State) (s : Sound st) (w : Writes b st) → Next st i (v.done st s w).done k q.to
+  pub next_of : (st : State) (s : Sound st) (w : Writes b st) → Next st i (v.done st s w).done k q.rows.to
   next_of st s w =
       let d = v.done st s w in
       next_request st s i d.done d.row (omega (arith, (sizes w).rows)) d.rest d.table_is r k (key ∙ ap key_at (row (flat_of st) r w)) (x.spans.to_is st s w)
 
-  pub row_ends : Kept b → i < q.to
+  pub row_ends : Kept b → i < q.rows.to
   row_ends c =
       let st = c.state in
       let d = v.done st c.sound c.writes in
       next_after st c.sound i d.done d.row (omega (arith, (sizes c.writes).rows)) (next_of st c.sound c.writes)
 
-  pub walked_more : Kept b → {u₁ u₂ : List ℕ} {e₁ e₂ : ℕ} → e₁ ≤ e + request_room → e₂ + candidate_room * i ≤ e₁ + candidate_room * q.to
+  pub walked_more : Kept b → {u₁ u₂ : List ℕ} {e₁ e₂ : ℕ} → e₁ ≤ e + request_room → e₂ + candidate_room * i ≤ e₁ + candidate_room * q.rows.to
       → Tells b (λ t. Lays u u₁ e (line_text (RequestLine (with_candidates [] (at k t)))) e₁)
-      → ((f : Flat) → Shows b f → Lays u₁ u₂ e₁ (row_texts (part i q.to f.rows)) e₂)
-      → Walked b u₀ u₂ a q.to e₂
+      → ((f : Flat) → Shows b f → Lays u₁ u₂ e₁ (row_texts (part i q.rows.to f.rows)) e₂)
+      → Walked b u₀ u₂ a q.rows.to e₂
   walked_more c {u₁} {u₂} {e₁} {e₂} h₁ h₂ p₁ p₂ = record {
     inside = x.spans.most;
     near = omega (arith, v.near, row_ends c);

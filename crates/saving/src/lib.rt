@@ -30,7 +30,7 @@ fn put_requests(s: &[u8], out: &mut [u8], from: usize) -> usize
         let k = announcing::evict::key_of(r);
         let q = package_stages::request_at(s, k);
         let e = request_lines::put_request(s, out, at, k, q);
-        let to = q.to;
+        let to = q.rows.to;
         at = candidate_lines::put_candidates(s, out, e, i, to);
         i = to;
     }

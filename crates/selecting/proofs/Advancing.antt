@@ -22,7 +22,7 @@ use Rattle.store.specs.Flat.{flat_of, rows_of}
 use Rattle.store.specs.Image.{Writes}
 use Rattle.store.specs.Shown.{rows_in, Kept}
 use Rattle.store.proofs.Frame.{sizes}
-use Rattle.requests.specs.declared.Window.{Window}
+use Rattle.store.specs.declared.rows.Window.{Window}
 use Rattle.announcing.specs.Evicts.{entry_at}
 use Rattle.std.specs.Prelude as rust
 use Rattle.ident.specs.declared.Key.{Key as KeyRead}

@@ -24,7 +24,7 @@ use Rattle.machine.proofs.Table.{lawful_at}
 use Rattle.machine.proofs.Tests.{by_test}
 use Rattle.machine.proofs.TakenExactly.{entry-itself as same_self}
 use Rattle.store.specs.Gather.{key_at, candidate_at}
-use Rattle.requests.specs.declared.Window.{Window}
+use Rattle.store.specs.declared.rows.Window.{Window}
 use Rattle.requests.specs.Changes.{Makes, Tells}
 use Rattle.announcing.specs.Evicts.{entry_at}
 use Rattle.choosing.specs.declared.Pick.{Pick}

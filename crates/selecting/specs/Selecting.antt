@@ -12,7 +12,7 @@ use Rattle.machine.specs.Step.{entries_answer, written}
 use Rattle.store.specs.Flat.{Flat, rows_of}
 use Rattle.store.specs.Image.{Shows, Writes}
 use Rattle.store.specs.Shown.{rows_in, Kept}
-use Rattle.requests.specs.declared.Window.{Window}
+use Rattle.store.specs.declared.rows.Window.{Window}
 use Rattle.requests.specs.Changes.{Tells}
 use Rattle.announcing.specs.Evicts.{entry_at}
 use Rattle.cursors.specs.InWords.{Stands}

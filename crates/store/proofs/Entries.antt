@@ -1,5 +1,5 @@
--- The tally's entries by their places: what a search finds, and where one row more, one less or a new bit works.
-use Prim.Native.Nat.{ℕ, zero, suc, ◌+◌, ◌-◌, ◌≤◌, ◌<◌}
+-- The tally's entries by their places: what a search finds, and where one row more, or a change, works.
+use Prim.Native.Nat.{ℕ, zero, suc, ◌+◌, ◌≤◌, ◌<◌}
 use mathlib.Core.Path.{◌≡◌, refl, sym, ◌∙◌}
 use mathlib.Core.Logic.{inl, inr}
 use mathlib.Core.List.{List, [], ◌∷◌, ◌++◌, map}
@@ -7,13 +7,15 @@ use native.Mathlib.Nat.{le_refl}
 use native.Mathlib.Omega.{arith}
 use lib.ListN.{length, take, drop, get_or, set, length-map}
 use lib.Seq.{set_split}
+use Rattle.std.specs.Prelude.{Option}
 use borrow.Author.Tests.{eq-eqb, ne_eqb}
 use Rattle.regions.specs.declared.Row.{Row}
 use Rattle.regions.specs.declared.Conn.{Conn}
-use Rattle.regions.specs.Regions.{insert_at, remove_at}
+use Rattle.regions.specs.Regions.{insert_at}
 use Rattle.regions.specs.Order.{Sorted, Bound}
 use Rattle.store.specs.Flat.{own_bit, bump, tally}
-use Rattle.store.proofs.Tally.{fresh, more, bump-nil, bump-lt, bump-eq, bump_gt, Tallied, fewer, unbump, reowned, retally}
+use Rattle.store.specs.Counting.{put, adjusted}
+use Rattle.store.proofs.Tally.{fresh, more, bump-nil, bump-lt, bump-eq, bump_gt, Tallied}
 use Rattle.store.proofs.Certify.{value_of}
 use Rattle.store.proofs.Bounds.{Ascend, ascend_weaken, ascend-sorted}
 use Rattle.machine.proofs.Tests.{order}
@@ -60,18 +62,12 @@ module _ (x : ℕ) where
   bump_new o (c ∷ cs) zero b h e = bump-lt x o c cs (e (omega arith))
   bump_new o (c ∷ cs) (suc i) b h e = rw (bump_gt x o c cs (b 0 (omega arith)), bump_new o cs i (λ j l. b (suc j) (omega arith)) (omega arith) (λ l. e (omega arith)))
 
-  unbump_there : (o : ℕ) (cs : List Conn) (i : ℕ) (d : Conn) → Below cs i → i < length cs → (get_or cs i d).conn ≡ x → unbump x o cs ≡ take i cs ++ fewer o (get_or cs i d) (drop (suc i) cs)
-  unfolding unbump
-  unbump_there o [] i d b h e = absurd (omega arith)
-  unbump_there o (c ∷ cs) zero d b h e = rw (eq-eqb x c.conn (sym e))
-  unbump_there o (c ∷ cs) (suc i) d b h e = rw (ne_eqb x c.conn (λ z. omega (arith, b 0 (omega arith))), unbump_there o cs i d (λ j l. b (suc j) (omega arith)) (omega arith) e)
-
-  retally_there : (o p : ℕ) (cs : List Conn) (i : ℕ) (d : Conn) → Below cs i → i < length cs → (get_or cs i d).conn ≡ x
-      → retally x o p cs ≡ take i cs ++ (reowned o p (get_or cs i d) ∷ drop (suc i) cs)
-  unfolding retally
-  retally_there o p [] i d b h e = absurd (omega arith)
-  retally_there o p (c ∷ cs) zero d b h e = rw (eq-eqb x c.conn (sym e))
-  retally_there o p (c ∷ cs) (suc i) d b h e = rw (ne_eqb x c.conn (λ z. omega (arith, b 0 (omega arith))), retally_there o p cs i d (λ j l. b (suc j) (omega arith)) (omega arith) e)
+  adjusted_there : (g : Conn → Option Conn) (cs : List Conn) (i : ℕ) (d : Conn) → Below cs i → i < length cs → (get_or cs i d).conn ≡ x
+      → adjusted x g cs ≡ take i cs ++ put (g (get_or cs i d)) (drop (suc i) cs)
+  unfolding adjusted
+  adjusted_there g [] i d b h e = absurd (omega arith)
+  adjusted_there g (c ∷ cs) zero d b h e = rw (eq-eqb x c.conn (sym e))
+  adjusted_there g (c ∷ cs) (suc i) d b h e = rw (ne_eqb x c.conn (λ z. omega (arith, b 0 (omega arith))), adjusted_there g cs i d (λ j l. b (suc j) (omega arith)) (omega arith) e)
 
   value_there : (v : Conn → ℕ) (cs : List Conn) (i : ℕ) (d : Conn) → Below cs i → i < length cs → (get_or cs i d).conn ≡ x → value_of v x cs ≡ v (get_or cs i d)
   unfolding value_of
@@ -96,15 +92,8 @@ module _ (cs : List Conn) {x i : ℕ} (b : Bound (names cs) x i) (d : Conn) wher
     pub bump_found : (o : ℕ) → bump x o cs ≡ set cs i (more o (get_or cs i d))
     bump_found o = bump_there x o cs i d b.below l e ∙ sym (set_split cs i (more o (get_or cs i d)) l)
 
-    pub unbump_last : (o : ℕ) → (get_or cs i d).held ≡ 1 → unbump x o cs ≡ remove_at i cs
-    unfolding remove_at
-    unbump_last o h = unbump_there x o cs i d b.below l e ∙ rw (eq-eqb (get_or cs i d).held 1 h)
-
-    pub unbump_found : (o : ℕ) → ((get_or cs i d).held ≡ 1 → ⊥) → unbump x o cs ≡ set cs i (record { conn = (get_or cs i d).conn; held = (get_or cs i d).held - 1; owned = (get_or cs i d).owned - o })
-    unbump_found o h = unbump_there x o cs i d b.below l e ∙ rw (ne_eqb (get_or cs i d).held 1 h) (sym (set_split cs i _ l))
-
-    pub retally_found : (o p : ℕ) → retally x o p cs ≡ set cs i (reowned o p (get_or cs i d))
-    retally_found o p = retally_there x o p cs i d b.below l e ∙ sym (set_split cs i (reowned o p (get_or cs i d)) l)
+    pub adjusted_found : (g : Conn → Option Conn) → adjusted x g cs ≡ take i cs ++ put (g (get_or cs i d)) (drop (suc i) cs)
+    adjusted_found g = adjusted_there x g cs i d b.below l e
 
     pub value_found : (v : Conn → ℕ) → value_of v x cs ≡ v (get_or cs i d)
     value_found v = value_there x v cs i d b.below l e

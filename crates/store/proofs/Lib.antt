@@ -30,5 +30,6 @@ pub mod Stored
 pub mod SoundWords
 pub mod Searches
 pub mod Missing
+pub mod Raising
 pub mod Counted
 pub mod Stamping

@@ -1,4 +1,4 @@
--- A connection that a search does not find has no entry, so that one row less, or a new bit, changes nothing.
+-- A connection that a search does not find has no entry to change.
 use Prim.Native.Nat.{ℕ, zero, suc, ◌≤◌, ◌<◌}
 use mathlib.Core.Path.{◌≡◌, refl, sym, ◌∙◌}
 use mathlib.Core.Logic.{inl, inr}
@@ -6,26 +6,22 @@ use mathlib.Core.List.{List, [], ◌∷◌}
 use native.Mathlib.Nat.{le_refl}
 use native.Mathlib.Omega.{arith}
 use lib.ListN.{length, get_or, length-map}
+use Rattle.std.specs.Prelude.{Option}
 use borrow.Author.Tests.{ne_eqb}
 use Rattle.regions.specs.declared.Conn.{Conn}
 use Rattle.regions.specs.Order.{Sorted, Bound}
 use Rattle.machine.specs.Typed.{Each}
 use Rattle.machine.proofs.Tests.{order}
-use Rattle.store.specs.Counting.{unbump, retally}
+use Rattle.store.specs.Counting.{adjusted}
 use Rattle.store.specs.Shown.{conn_names}
 
 abbrev Gone : ℕ → List Conn → Type 0
 Gone x cs = (j : ℕ) → j < length cs → get_or (conn_names cs) j 0 ≡ x → ⊥
 
-unbump-gone : (x o : ℕ) (cs : List Conn) → Gone x cs → unbump x o cs ≡ cs
-unfolding unbump
-unbump-gone x o [] n = refl
-unbump-gone x o (c ∷ cs) n = rw (ne_eqb x c.conn (λ z. n 0 (omega arith) (sym z)), unbump-gone x o cs (λ j l. n (suc j) (omega arith)))
-
-retally-gone : (x o p : ℕ) (cs : List Conn) → Gone x cs → retally x o p cs ≡ cs
-unfolding retally
-retally-gone x o p [] n = refl
-retally-gone x o p (c ∷ cs) n = rw (ne_eqb x c.conn (λ z. n 0 (omega arith) (sym z)), retally-gone x o p cs (λ j l. n (suc j) (omega arith)))
+adjusted-gone : (x : ℕ) (g : Conn → Option Conn) (cs : List Conn) → Gone x cs → adjusted x g cs ≡ cs
+unfolding adjusted
+adjusted-gone x g [] n = refl
+adjusted-gone x g (c ∷ cs) n = rw (ne_eqb x c.conn (λ z. n 0 (omega arith) (sym z)), adjusted-gone x g cs (λ j l. n (suc j) (omega arith)))
 
 pub name_at : (cs : List Conn) (i : ℕ) (d : Conn) → i < length cs → get_or (conn_names cs) i 0 ≡ (get_or cs i d).conn
 name_at [] i d h = absurd (omega arith)
@@ -47,11 +43,8 @@ module _ (cs : List Conn) {x i : ℕ} (s : Sorted (conn_names cs)) (b : Bound (c
             n k (sym (name_at cs i d k) ∙ e)
       ]
 
-  pub unbump-missing : (o : ℕ) → unbump x o cs ≡ cs
-  unbump-missing o = unbump-gone x o cs gone
-
-  pub retally-missing : (o p : ℕ) → retally x o p cs ≡ cs
-  retally-missing o p = retally-gone x o p cs gone
+  pub adjusted-missing : (g : Conn → Option Conn) → adjusted x g cs ≡ cs
+  adjusted-missing g = adjusted-gone x g cs gone
 
 pub each_at : {A : Type 0} (P : A → Type 0) (l : List A) (i : ℕ) (d : A) → Each P l → i < length l → P (get_or l i d)
 each_at P [] i d a h = absurd (omega arith)

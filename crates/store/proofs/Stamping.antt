@@ -49,24 +49,24 @@ module _ {A : Type 0} (g : A → A) (from : ℕ) (l : List A) where
   unfolding map_in
   length-map_in to h m = simp (length-append, length-map, length-drop, length-take) (omega arith)
 
--- what a loop over the rows from .. keeps, at i
-pub record Stamped (b b' : List ℕ) (g : Row → Row) (from to i : ℕ) : Type 0 where
+-- what a loop over the rows from .. keeps, at i, of each change that is asked for
+pub record Stamped (b b' : List ℕ) (asked : (Row → Row) → Type 0) (from to i : ℕ) : Type 0 where
   pub least : from ≤ i
   pub most : i ≤ to
   pub room : to ≤ rows_in b
   pub within : to ≤ rows_in b'
   pub long : length b' ≡ length b
   pub is_shown : Shown b'
-  pub turns : Turns b b' (λ f. with_rows (map_in g from i f.rows) f)
+  pub turns : (g : Row → Row) → asked g → Turns b b' (λ f. with_rows (map_in g from i f.rows) f)
 
-pub stamped_none : {b : List ℕ} (g : Row → Row) {from to : ℕ} → Shown b → from ≤ to → to ≤ rows_in b → Stamped b b g from to from
-stamped_none {b} g {from} s l m =
-    record { least = omega arith; most = l; room = m; within = m; long = refl; is_shown = s; turns = λ f h. subst (λ (rs : List Row). Shows b (with_rows rs f)) (sym (map_none g from f.rows)) h }
+pub stamped_none : {b : List ℕ} {asked : (Row → Row) → Type 0} {from to : ℕ} → Shown b → from ≤ to → to ≤ rows_in b → Stamped b b asked from to from
+stamped_none {b} {asked} {from} s l m =
+    record { least = omega arith; most = l; room = m; within = m; long = refl; is_shown = s; turns = λ g a f h. subst (λ (rs : List Row). Shows b (with_rows rs f)) (sym (map_none g from f.rows)) h }
 
 -- a turn: the row at i is replaced by g of it
-pub stamped_more : {b b' b'' : List ℕ} (g : Row → Row) {from to i : ℕ} (r x : Row) → Stamped b b' g from to i → i < to → length b'' ≡ length b'
-    → ((f : Flat) (d : Row) → Shows b' f → r ≡ get_or f.rows i d) → x ≡ g r → Turns b' b'' (λ f. with_rows (set f.rows i x) f) → Stamped b b'' g from to (i + 1)
-stamped_more {b} {b'} {b''} g {from} {to} {i} r x st l n reads e turn =
+pub stamped_more : {b b' b'' : List ℕ} {asked : (Row → Row) → Type 0} {from to i : ℕ} (r x : Row) → Stamped b b' asked from to i → i < to → length b'' ≡ length b'
+    → ((f : Flat) (d : Row) → Shows b' f → r ≡ get_or f.rows i d) → ((g : Row → Row) → asked g → x ≡ g r) → Turns b' b'' (λ f. with_rows (set f.rows i x) f) → Stamped b b'' asked from to (i + 1)
+stamped_more {b} {b'} {b''} {asked} {from} {to} {i} r x st l n reads e turn =
     let s = st.is_shown in
     let h = turn s.flat s.shows in
     let z = s.sized in
@@ -79,10 +79,10 @@ stamped_more {b} {b'} {b''} g {from} {to} {i} r x st l n reads e turn =
       within = omega (arith, st.within, s.sizes);
       long = n ∙ st.long;
       is_shown = shown h (record { limit = z.limit; places = z.places; rows_few = omega arith; conns_few = z.conns_few; places_few = z.places_few }) s.light;
-      turns = λ f w.
-          let p = st.turns f w in
+      turns = λ g a f w.
+          let p = st.turns g a f w in
           let u = sizes w in
           let j : i < length f.rows = omega (arith, st.room) in
-          let c : x ≡ g (get_or f.rows i r) = e ∙ ap g (reads (with_rows (map_in g from i f.rows) f) r p ∙ map_read g from f.rows i st.least j r) in
+          let c : x ≡ g (get_or f.rows i r) = e g a ∙ ap g (reads (with_rows (map_in g from i f.rows) f) r p ∙ map_read g from f.rows i st.least j r) in
           subst (λ (rs : List Row). Shows b'' (with_rows rs f)) (ap (set (map_in g from i f.rows) i) c ∙ map_more g from f.rows i st.least j r) (turn (with_rows (map_in g from i f.rows) f) p);
     }

@@ -1,5 +1,5 @@
 -- What the functions over a store ask of its bytes, and what they promise of them.
-use Rattle.std.specs.Prelude.{ℕ, ◌+◌, ◌*◌, ◌^◌, ◌≤◌, ◌<◌, ◌≡◌, Bool, true, false, List, map, length, get_or}
+use Rattle.std.specs.Prelude.{ℕ, ◌+◌, ◌*◌, ◌^◌, ◌≤◌, ◌<◌, ◌≡◌, Result, Ok, Err, List, map, length, get_or}
 use Rattle.words.specs.Words.{words}
 use Rattle.regions.specs.declared.Row.{Row}
 use Rattle.regions.specs.declared.Conn.{Conn}
@@ -132,11 +132,20 @@ pub record Met (b : List ℕ) (from to x r : ℕ) : Type 0 where
 
 -- ---- the tally
 
--- r tells whether the i-th entry is x's
-pub record EntryOf (b : List ℕ) (i x : ℕ) (r : Bool) : Type 0 where
-  pub inside : r ≡ true → i < conns_in b
-  pub is : (f : Flat) (d : Conn) → Shows b f → r ≡ true → (get_or f.conns i d).conn ≡ x
-  pub not : (f : Flat) (d : Conn) → Shows b f → r ≡ false → i < length f.conns → (get_or f.conns i d).conn ≡ x → ⊥
+-- the entry of the connection x is the i-th
+pub record EntryAt (b : List ℕ) (x i : ℕ) : Type 0 where
+  pub sought : Seek b (λ f. conn_names f.conns) (conns_in b) x i
+  pub inside : i < conns_in b
+  pub is : (f : Flat) (d : Conn) → Shows b f → (get_or f.conns i d).conn ≡ x
+
+-- it has none, which would be the i-th
+pub record NoEntry (b : List ℕ) (x i : ℕ) : Type 0 where
+  pub sought : Seek b (λ f. conn_names f.conns) (conns_in b) x i
+  pub not : (f : Flat) (d : Conn) → Shows b f → i < length f.conns → (get_or f.conns i d).conn ≡ x → ⊥
+
+abbrev pub EntryOf : List ℕ → ℕ → Result ℕ ℕ → Type 0
+EntryOf b x (Ok i) = EntryAt b x i
+EntryOf b x (Err i) = NoEntry b x i
 
 -- whatever flat state the bytes b write, its connections in order, b' write it with g of them
 abbrev pub Tallies : List ℕ → List ℕ → (List Conn → List Conn) → Type 0

@@ -1,42 +1,61 @@
-// The tally: a connection's entry follows its rows. (These, `gathering::tallying` and `tearing::idle` look an entry up in the same way and differ in
-// what becomes of it, and where there is none: one function for them would take both as closures with contracts, longer than these.)
-ghost use Rattle.std.specs.Prelude.{◌≡◌, ℕ, ◌≤◌, ◌<◌, length, get_or};
-ghost use Rattle.regions.specs.Order.{Sorted};
-ghost use Rattle.store.specs.Flat.{Flat, bump};
-ghost use Rattle.store.specs.Counting.{unbump, retally};
-ghost use Rattle.store.specs.Image.{Shows};
-ghost use Rattle.store.specs.Shown.{limit_in, conns_in, conn_names, Shown, with_conns, EntryOf, Tallies};
+// The tally: a connection's entry follows its rows.
+ghost use Rattle.std.specs.Prelude.{◌≡◌, ℕ, ◌≤◌, ◌<◌, Option, Some};
+ghost use Rattle.regions.specs.declared.Conn.{Conn};
+ghost use Rattle.machine.specs.Limits.{max_announcements};
+ghost use Rattle.store.specs.Counting.{raise, adjusted, less_one, unbump, reowned, retally};
+ghost use Rattle.store.specs.Shown.{limit_in, conns_in, Light, Shown, EntryOf, Tallies};
 
 use crate::{conns, head};
 
-// Whether the i-th entry is x's.
-pub fn is_entry(s: &[u8], i: usize, x: u64) -> bool
+// Where the entry of the connection x stands, or would.
+pub fn find(s: &[u8], x: u64) -> Result<usize, usize>
     requires { Shown s.now }
-    ensures { EntryOf s.now i x result }
-{
-    i < head::conns(s) && conns::conn_at(s, i).conn == x
-}
-
-// One row more of the connection x, which does not own its request by it.
-pub fn count_in(s: &mut [u8], x: u64)
-    requires { Shown s.old × (conns_in s.old < limit_in s.old) }
-    ensures { Tallies s.old s.new (bump x 0) }
+    ensures { EntryOf s.now x result }
 {
     let i = conns::seek_conn(s, x);
-    if is_entry(s, i, x) {
-        let c = conns::conn_at(s, i);
-        let d = regions::Conn {
-            held: c.held + 1,
-            ..c
-        };
-        conns::set_conn(s, i, d);
+    if i < head::conns(s) && conns::conn_at(s, i).conn == x {
+        Ok(i)
     } else {
-        let d = regions::Conn {
-            conn: x,
-            held: 1,
-            owned: 0,
-        };
-        conns::add_conn(s, i, d);
+        Err(i)
+    }
+}
+
+// d rows more of the connection x, none of which owns its request.
+pub fn count_in(s: &mut [u8], x: u64, d: u64)
+    requires { Shown s.old × (conns_in s.old < limit_in s.old) × (1 ≤ d) × (d ≤ max_announcements) }
+    ensures { Tallies s.old s.new (raise x d) }
+{
+    match find(s, x) {
+        Ok(i) => {
+            let c = conns::conn_at(s, i);
+            let e = regions::Conn {
+                held: c.held + d,
+                ..c
+            };
+            conns::set_conn(s, i, e);
+        }
+        Err(i) => {
+            let e = regions::Conn {
+                conn: x,
+                held: d,
+                owned: 0,
+            };
+            conns::add_conn(s, i, e);
+        }
+    }
+}
+
+// The entry of the connection x, if it has one, becomes what `change` makes of it, or goes.
+pub fn adjust<F: FnOnce(regions::Conn) -> Option<regions::Conn>>(s: &mut [u8], x: u64, change: F)
+    requires shown { Shown s.old }
+    requires can { (c : Conn) → Light c → F.pre change c }
+    ensures { (g : Conn → Option Conn) → ((c : Conn) (r : Option Conn) → F.post change c r → r ≡ g c) → Tallies s.old s.new (adjusted x g) }
+{
+    if let Ok(i) = find(s, x) {
+        match change(conns::conn_at(s, i)) {
+            Some(c) => conns::set_conn(s, i, c),
+            None => conns::drop_conn(s, i),
+        }
     }
 }
 
@@ -45,20 +64,23 @@ pub fn count_out(s: &mut [u8], x: u64, o: u64)
     requires { Shown s.old }
     ensures { Tallies s.old s.new (unbump x o) }
 {
-    let i = conns::seek_conn(s, x);
-    if is_entry(s, i, x) {
-        let c = conns::conn_at(s, i);
-        if c.held == 1 {
-            conns::drop_conn(s, i);
-        } else {
-            let d = regions::Conn {
-                held: c.held.saturating_sub(1),
-                owned: c.owned.saturating_sub(o),
-                ..c
-            };
-            conns::set_conn(s, i, d);
-        }
-    }
+    adjust(
+        s,
+        x,
+        |c| -> Option<regions::Conn>
+            ensures { result ≡ less_one o c }
+        {
+            if c.held == 1 {
+                None
+            } else {
+                Some(regions::Conn {
+                    held: c.held.saturating_sub(1),
+                    owned: c.owned.saturating_sub(o),
+                    ..c
+                })
+            }
+        },
+    );
 }
 
 // A row of the connection x, whose bit of owning goes from o to p.
@@ -66,13 +88,17 @@ pub fn recount(s: &mut [u8], x: u64, o: u64, p: u64)
     requires { Shown s.old × (p ≤ 1) }
     ensures { Tallies s.old s.new (retally x o p) }
 {
-    let i = conns::seek_conn(s, x);
-    if is_entry(s, i, x) {
-        let c = conns::conn_at(s, i);
-        let d = regions::Conn {
-            owned: c.owned.saturating_sub(o) + p,
-            ..c
-        };
-        conns::set_conn(s, i, d);
-    }
+    adjust(
+        s,
+        x,
+        |c| -> Option<regions::Conn>
+            requires { Light c × (p ≤ 1) }
+            ensures { result ≡ Some (reowned o p c) }
+        {
+            Some(regions::Conn {
+                owned: c.owned.saturating_sub(o) + p,
+                ..c
+            })
+        },
+    );
 }

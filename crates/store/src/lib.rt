@@ -4,8 +4,6 @@
 // says that bytes write a flat state, and a contract says what holds of every flat state that the bytes write. A `requires` asks
 // only that counts and sums are in range (`Shown`). `Shown` and `Kept` stay clauses: tried as a ghost field of a struct over `&mut [u8]`, and each
 // function then said in a clause that the reference stays.
-//
-// A range of rows is `from, to`: `requests::Window` stands above this crate and holds where the rows of a key are; those that a pass drops are no key's.
 #![tactic(auto)]
 
 pub mod conns;

@@ -10,6 +10,14 @@ ghost use Rattle.store.specs.Shown.{limit_in, rows_in, row_numbers, Shown, with_
 use crate::{head, layout};
 use std::ops::Bound;
 
+// Rows from .. to. It is passed on by copy, as a Range of std is not.
+#[derive(Clone, Copy)]
+pub struct Window {
+    pub from: usize,
+    pub to: usize,
+    ghost order: { from ≤ to },
+}
+
 // The i-th row.
 pub fn row_at(s: &[u8], i: usize) -> regions::Row
     requires { Shown s.now × (i < rows_in s.now) }
@@ -49,15 +57,15 @@ pub fn drop_row(s: &mut [u8], i: usize)
     words::put(s, layout::ROWS, (n - 1) as u64);
 }
 
-// Takes the rows from .. to out.
-pub fn drop_rows(s: &mut [u8], from: usize, to: usize)
-    requires { Shown s.old × (from ≤ to) × (to ≤ rows_in s.old) }
-    ensures { Turns s.old s.new (λ f. with_rows (remove_range from to f.rows) f) }
+// Takes the rows of a window out.
+pub fn drop_rows(s: &mut [u8], w: Window)
+    requires { Shown s.old × (w.to ≤ rows_in s.old) }
+    ensures { Turns s.old s.new (λ f. with_rows (remove_range w.from w.to f.rows) f) }
 {
     let n = head::rows(s);
     let part = layout::rows_part(s);
-    regions::ranges::remove_rows(&mut s[part], n, from, to);
-    words::put(s, layout::ROWS, (n - (to - from)) as u64);
+    regions::ranges::remove_rows(&mut s[part], n, w.from, w.to);
+    words::put(s, layout::ROWS, (n - (w.to - w.from)) as u64);
 }
 
 // The first row whose key does not stand before `start`, or how many rows there are.
@@ -69,10 +77,10 @@ pub fn seek_row(s: &[u8], start: Bound<regions::Key>) -> usize
     regions::seek_row(&s[layout::rows_part(s)], n, start)
 }
 
-// The first of the rows from .. to whose connection is c, or `to`.
-pub fn find_row(s: &[u8], from: usize, to: usize, c: u64) -> usize
-    requires { Shown s.now × (from ≤ to) × (to ≤ rows_in s.now) }
-    ensures { Met s.now from to c result }
+// The first of the rows of a window whose connection is c, or the window's end.
+pub fn find_row(s: &[u8], w: Window, c: u64) -> usize
+    requires { Shown s.now × (w.to ≤ rows_in s.now) }
+    ensures { Met s.now w.from w.to c result }
 {
-    regions::find_conn_in(&s[layout::rows_part(s)], from, to, c)
+    regions::find_conn_in(&s[layout::rows_part(s)], w.from, w.to, c)
 }

@@ -6,17 +6,17 @@ use mathlib.Core.List.{List, [], ◌∷◌}
 use native.Mathlib.Omega.{arith}
 use lib.Dec.{eqb}
 use lib.ListN.{length, drop, get_or, set}
+use Rattle.std.specs.Prelude.{Some}
 use borrow.Author.Tests.{lt-ltb, le-ltb, ltb-true, ltb-false, eqb-true, eqb-false, eq-eqb, ne_eqb}
 use Rattle.regions.specs.declared.Conn.{Conn}
 use Rattle.regions.specs.Order.{Sorted, Bound}
 use Rattle.machine.specs.Typed.{Each}
 use Rattle.machine.proofs.Tests.{test}
-use Rattle.store.specs.Counting.{unbump}
+use Rattle.store.specs.Counting.{adjusted, unbump}
 use Rattle.store.specs.Flat.{Flat}
 use Rattle.store.specs.Image.{Shows}
 use Rattle.store.specs.Shown.{conn_names, Light, with_conns}
 use Rattle.store.proofs.Bounds.{Ascend, ascend_weaken, ascend-sorted}
-use Rattle.store.proofs.Missing.{unbump-missing}
 use Rattle.store.proofs.Tally.{Tallied}
 use Rattle.package_stages.specs.Dead.{filter}
 use Rattle.tearing.specs.Idle.{busy, ebb, ebbed}
@@ -24,32 +24,10 @@ use Rattle.tearing.specs.Idle.{busy, ebb, ebbed}
 -- ---- as the code does it
 
 module _ (n o : ℕ) where
-  there : (cs : List Conn) (i : ℕ) (d : Conn) → ((j : ℕ) → j < i → get_or (conn_names cs) j 0 < n) → i < length cs → (get_or cs i d).conn ≡ n → ebbed n o cs ≡ set cs i (ebb o (get_or cs i d))
-  unfolding ebbed
-  there [] i d b h e = absurd (omega arith)
-  there (c ∷ cs) zero d b h e = rw (eq-eqb n c.conn (sym e))
-  there (c ∷ cs) (suc i) d b h e = rw (ne_eqb n c.conn (λ z. omega (arith, b 0 (omega arith))), there cs i d (λ j l. b (suc j) (omega arith)) (omega arith) e)
-
-  -- what takes no entry out leaves each as it is
-  nowhere : (cs : List Conn) → unbump n o cs ≡ cs → ebbed n o cs ≡ cs
-  unfolding ebbed unbump
-  nowhere [] e = refl
-  nowhere (c ∷ cs) e =
-      elim (test (eqb n c.conn)) [
-        | inl a ↦ elim (test (eqb c.held 1)) [
-          | inl h ↦ absurd (omega (arith, ap length (rw (a, h) at e)))
-          | inr h ↦ rw a (rw (a, h) at e)
-        ]
-        | inr a ↦ rw a (ap (λ (l : List Conn). c ∷ l) (nowhere cs (ap (drop 1) (rw a at e))))
-      ]
-
-module _ {b' : List ℕ} (f : Flat) {x i : ℕ} (bd : Bound (conn_names f.conns) x i) (d : Conn) (o : ℕ) where
-  pub ebbed_found : i < length f.conns → (get_or f.conns i d).conn ≡ x → {c : Conn} → c ≡ get_or f.conns i d → Shows b' (with_conns (set f.conns i (ebb o c)) f)
-      → Shows b' (with_conns (ebbed x o f.conns) f)
-  ebbed_found l e k s = subst (λ (cs : List Conn). Shows b' (with_conns cs f)) (ap (λ (c : Conn). set f.conns i (ebb o c)) k ∙ sym (there x o f.conns i d bd.below l e)) s
-
-  pub ebbed-missing : (i < length f.conns → (get_or f.conns i d).conn ≡ x → ⊥) → Sorted (conn_names f.conns) → Shows b' f → Shows b' (with_conns (ebbed x o f.conns) f)
-  ebbed-missing n so s = subst (λ (cs : List Conn). Shows b' (with_conns cs f)) (sym (nowhere x o f.conns (unbump-missing f.conns so bd d n o))) s
+  pub ebbed-is : (cs : List Conn) → ebbed n o cs ≡ adjusted n (λ c. Some (ebb o c)) cs
+  unfolding ebbed adjusted
+  ebbed-is [] = refl
+  ebbed-is (c ∷ cs) = elim (test (eqb n c.conn)) [ inl a ↦ rw a | inr a ↦ rw (a, ebbed-is cs) ]
 
 -- ---- entries that rise
 

@@ -1,12 +1,11 @@
 // Connections that lose rows in one pass: entries of the tally stay until the pass is over, and those of no row are taken out together.
-// (`count_off` has the shape of those in `store::counting`: why it is one of its own is said there. The bit of owning is a number, which is taken off.)
-ghost use Rattle.std.specs.Prelude.{◌≡◌, ◌*◌, length};
+ghost use Rattle.std.specs.Prelude.{◌≡◌, ◌*◌, length, Some};
 ghost use Rattle.words.specs.Words.{words};
 ghost use Rattle.regions.specs.declared.Conn.{Conn};
 ghost use Rattle.regions.specs.Rows.{conn_size, conn_words};
 ghost use Rattle.store.specs.Shown.{Shown, with_conns, Turns, Tallies};
 ghost use Rattle.package_stages.specs.Dead.{filter};
-ghost use Rattle.tearing.specs.Idle.{busy, ebbed};
+ghost use Rattle.tearing.specs.Idle.{busy, ebb, ebbed};
 
 use store::layout;
 
@@ -15,16 +14,19 @@ pub fn count_off(s: &mut [u8], x: u64, o: u64)
     requires { Shown s.old }
     ensures { Tallies s.old s.new (ebbed x o) }
 {
-    let i = store::conns::seek_conn(s, x);
-    if store::counting::is_entry(s, i, x) {
-        let c = store::conns::conn_at(s, i);
-        let d = regions::Conn {
-            held: c.held.saturating_sub(1),
-            owned: c.owned.saturating_sub(o),
-            ..c
-        };
-        store::conns::set_conn(s, i, d);
-    }
+    store::counting::adjust(
+        s,
+        x,
+        |c| -> Option<regions::Conn>
+            ensures { result ≡ Some (ebb o c) }
+        {
+            Some(regions::Conn {
+                held: c.held.saturating_sub(1),
+                owned: c.owned.saturating_sub(o),
+                ..c
+            })
+        },
+    );
 }
 
 // Takes every entry of no row out of the tally.

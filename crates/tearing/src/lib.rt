@@ -7,7 +7,6 @@
 
 ghost use Rattle.std.specs.Prelude.{◌≡◌, ℕ, ◌+◌, ◌≤◌, ◌<◌, length, get_or, set};
 ghost use Rattle.regions.specs.declared.Row.{Row};
-ghost use Rattle.regions.specs.Rows.{with_ready};
 ghost use Rattle.machine.specs.State.{State};
 ghost use Rattle.machine.specs.Sound.{Sound};
 ghost use Rattle.store.specs.Flat.{Flat};
@@ -16,18 +15,12 @@ ghost use Rattle.store.specs.Shown.{rows_in, held_places_in, with_rows, Turns, S
 ghost use Rattle.tearing.specs.Torn.{RowTorn, RowsTorn, PlaceTorn, PlacesTorn, Cleared};
 
 use places::{AWAITING, DEAD};
+use store::rows::Window;
 
 pub mod idle;
 pub mod packaged;
 
 // ---- rows
-
-// The row r with another ready time.
-fn ready_row(r: regions::Row, clock: u64) -> regions::Row
-    ensures { result ≡ with_ready clock r }
-{
-    regions::Row { ready: clock, ..r }
-}
 
 // How many rows stay of those looked at, and where the place of the last one stands, or would.
 #[derive(Clone, Copy)]
@@ -53,7 +46,8 @@ fn tear_row(s: &mut [u8], m: usize, i: usize, clock: u64, guess: usize) -> Stay
         idle::count_off(s, r.conn, 1);
         return Stay { rows: m, at };
     }
-    store::rows::set_row(s, m, ready_row(r, clock));
+    let ready = regions::Row { ready: clock, ..r };
+    store::rows::set_row(s, m, ready);
     Stay { rows: m + 1, at }
 }
 
@@ -67,7 +61,11 @@ fn tear_rows(s: &mut [u8], clock: u64)
     for i in 0..n {
         k = tear_row(s, k.rows, i, clock, k.at);
     }
-    store::rows::drop_rows(s, k.rows, n);
+    let rest = Window {
+        from: k.rows,
+        to: n,
+    };
+    store::rows::drop_rows(s, rest);
     idle::drop_idle(s);
 }
 

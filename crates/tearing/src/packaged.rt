@@ -17,9 +17,6 @@ ghost use Rattle.tearing.specs.Torn.{packaged_row, Ebbs, PackageAt};
 
 use places::AWAITING;
 
-// No store has more places.
-const MOST: usize = 4_096;
-
 // Whether the hash of the i-th place comes before q.
 fn comes_before(s: &[u8], i: usize, q: regions::Quad) -> bool
     requires { Shown s.now × (i < held_places_in s.now) }
@@ -67,11 +64,9 @@ fn seek_near(s: &[u8], q: regions::Quad, guess: usize) -> usize
     if stands_at(s, guess, q) {
         return guess;
     }
-    if guess < MOST {
-        let next = guess + 1;
-        if stands_at(s, next, q) {
-            return next;
-        }
+    let next = guess.saturating_add(1);
+    if stands_at(s, next, q) {
+        return next;
     }
     package_stages::flat::seek_place(s, q)
 }

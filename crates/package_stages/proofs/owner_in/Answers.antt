@@ -7,10 +7,10 @@ use Rattle.package_stages.proofs.Owners.{unowned_more}
 use Rattle.package_stages.proofs.owner_in.Goals as goal
 
 pub loop-i-init : goal.loop-i-init
-loop-i-init c = record { least = omega arith; most = c.requires.1; free = λ f d h j p q z. omega arith }
+loop-i-init c = record { least = omega arith; most = c.args.w.order; free = λ f d h j p q z. omega arith }
 
 pub row_at-r-requires : goal.row_at-r-requires
-row_at-r-requires c = (c.requires.0, omega (arith, c.loop-i-test.true, c.requires.2))
+row_at-r-requires c = (c.requires.0, omega (arith, c.loop-i-test.true, c.requires.1))
 
 pub returns-then-owns : goal.returns-then-owns
 returns-then-owns c = λ f d h.

@@ -10,19 +10,19 @@ use Rattle.package_stages.proofs.Owners.{nobody, owner-is}
 use Rattle.package_stages.proofs.request_at.Goals as goal
 
 pub owner_in-owner-requires : goal.owner_in-owner-requires
-owner_in-owner-requires c = (kept_shown c.requires, c.window_of-w.ensures.order, c.window_of-w.ensures.most)
+owner_in-owner-requires c = (kept_shown c.requires, c.window_of-rows.ensures.most)
 
 pub mark_in-mark-requires : goal.mark_in-mark-requires
-mark_in-mark-requires c = (kept_shown c.requires, c.window_of-w.ensures.most)
+mark_in-mark-requires c = (kept_shown c.requires, c.window_of-rows.ensures.most)
 
 pub returns : goal.returns
 returns c =
     let k = key_num c.args.k in
     let key = c.from-key.ensures in
-    let win = c.window_of-w.ensures in
+    let win = c.window_of-rows.ensures in
     record {
-      spans = subst (λ (x : ℕ). Spans c.args.s.now x c.window_of-w.result.from
-          c.window_of-w.result.to) key.number win;
+      spans = subst (λ (x : ℕ). Spans c.args.s.now x c.window_of-rows.result.from
+          c.window_of-rows.result.to) key.number win;
       is = λ st s w.
           let d = row_of (at k st.table) nobody in
           let from = from_at st s k key.small key.number (win.from_is st s w) in

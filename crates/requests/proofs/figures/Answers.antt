@@ -8,26 +8,23 @@ use Rattle.requests.proofs.Keeping.{kept_shown, conns_in_order}
 use Rattle.requests.proofs.ConnFigures.{figures_found, figures-missing}
 use Rattle.requests.proofs.figures.Goals as goal
 
-pub seek_conn-i-requires : goal.seek_conn-i-requires
-seek_conn-i-requires c = kept_shown c.requires
-
-pub is_entry-requires : goal.is_entry-requires
-is_entry-requires c = kept_shown c.requires
+pub find-requires : goal.find-requires
+find-requires c = kept_shown c.requires
 
 pub conn_at-requires : goal.conn_at-requires
-conn_at-requires c = (kept_shown c.requires, c.is_entry.ensures.inside c.if-is_entry.true)
+conn_at-requires c = (kept_shown c.requires, c.in-Ok.ensures.inside)
 
-pub returns-then-is_entry : goal.returns-then-is_entry
-returns-then-is_entry c = λ st s w.
+pub returns-in-Ok : goal.returns-in-Ok
+returns-in-Ok c = λ st s w.
     let d = fresh 0 0 in
     let z = sizes w in
-    let bd = c.seek_conn-i.ensures.bound (flat_of st) w (conns_in_order (rows_of st.table)) in
-    let l : c.seek_conn-i.result < length (tally (rows_of st.table)) = omega (arith, c.is_entry.ensures.inside c.if-is_entry.true) in
-    figures_found st s c.args.n bd d l (c.is_entry.ensures.is (flat_of st) d w c.if-is_entry.true)
-    (c.conn_at.ensures (flat_of st) d w)
+    let found = c.in-Ok.ensures in
+    let bd = found.sought.bound (flat_of st) w (conns_in_order (rows_of st.table)) in
+    let l : c.in-Ok.i < length (tally (rows_of st.table)) = omega (arith, found.inside) in
+    figures_found st s c.args.n bd d l (found.is (flat_of st) d w) (c.conn_at.ensures (flat_of st) d w)
 
-pub returns-else-is_entry : goal.returns-else-is_entry
-returns-else-is_entry c = λ st s w.
+pub returns-in-Err : goal.returns-in-Err
+returns-in-Err c = λ st s w.
     let d = fresh 0 0 in
-    let bd = c.seek_conn-i.ensures.bound (flat_of st) w (conns_in_order (rows_of st.table)) in
-    figures-missing st s c.args.n bd d (λ l z. c.is_entry.ensures.not (flat_of st) d w c.if-is_entry.false l z)
+    let none = c.in-Err.ensures in
+    figures-missing st s c.args.n (none.sought.bound (flat_of st) w (conns_in_order (rows_of st.table))) d (λ l z. none.not (flat_of st) d w l z)

@@ -8,8 +8,8 @@ use Rattle.store.specs.Stamps.{marked_row}
 use Rattle.requests.proofs.Readying.{window_made, marked-rows, marked-places, marked-owns}
 use Rattle.requests.proofs.mark.Goals as goal
 
-pub mark_rows-requires : goal.mark_rows-requires
-mark_rows-requires c = (kept_shown c.requires, c.window_of-w.ensures.order, c.window_of-w.ensures.most)
+pub change_rows-requires-clause-room : goal.change_rows-requires-clause-room
+change_rows-requires-clause-room c = (kept_shown c.requires, c.window_of-w.ensures.most)
 
 pub returns : goal.returns
 returns c = λ st s w u.
@@ -18,4 +18,4 @@ returns c = λ st s w u.
     let from = from_at st s k key.small key.number (c.window_of-w.ensures.from_is st s w) in
     let to = to_at st s k key.small key.number (c.window_of-w.ensures.to_is st s w) in
     window_made marked_row (λ q. refl) marked-owns st s k marked (marked-rows (at k st.table)) (marked-places (at k st.table)) (λ z. z) from to
-    (c.mark_rows.ensures (flat_of st) w)
+    (c.change_rows.ensures marked_row (λ _ _ p. p.1) (flat_of st) w)

@@ -4,6 +4,7 @@ use mathlib.Core.Path.{refl, ◌∙◌}
 use lib.ListN.{length}
 use Rattle.ident.specs.Words.{key_num}
 use Rattle.machine.specs.Table.{at}
+use Rattle.store.specs.Counting.{raise}
 use Rattle.store.specs.Flat.{flat_of, rows_of}
 use Rattle.store.proofs.Frame.{sizes}
 use Rattle.requests.specs.Changes.{candidate_of}
@@ -29,9 +30,15 @@ count_in-requires c =
     let l : c.window_of-w.result.to ≤ length rs =
     omega (arith, c.window_of-w.ensures.most) in
     let m : length rs < kept.state.limit = omega (arith, c.requires.1) in
-    added-shown kept.state kept.sound c.new_row-r.result (c.add_row.ensures (flat_of kept.state) kept.writes) l m
+    let added = added-shown kept.state kept.sound c.new_row-r.result (c.add_row.ensures (flat_of kept.state) kept.writes) l m in (
+      added.0,
+      added.1,
+      omega arith,
+      omega arith,
+    )
 
 pub returns : goal.returns
+unfolding raise
 returns c = λ st s w o.
     let k = key_num c.args.k in
     let key = c.from-key.ensures in

@@ -8,8 +8,8 @@ use Rattle.regions.specs.Rows.{with_ready}
 use Rattle.requests.proofs.Readying.{window_made, readied, readied-rows, readied-places}
 use Rattle.requests.proofs.ready_all.Goals as goal
 
-pub ready_rows-requires : goal.ready_rows-requires
-ready_rows-requires c = (kept_shown c.requires, c.window_of-w.ensures.order, c.window_of-w.ensures.most)
+pub change_rows-requires-clause-room : goal.change_rows-requires-clause-room
+change_rows-requires-clause-room c = (kept_shown c.requires, c.window_of-w.ensures.most)
 
 pub returns : goal.returns
 returns c = λ st s w u.
@@ -19,4 +19,4 @@ returns c = λ st s w u.
     let to = to_at st s k key.small key.number (c.window_of-w.ensures.to_is st s w) in
     let v = c.args.v in
     window_made (with_ready v) (λ q. refl) (λ q. refl) st s k (readied v) (readied-rows v (at k st.table)) (readied-places v (at k st.table))
-    (readied-gone v (at k st.table).candidates) from to (c.ready_rows.ensures (flat_of st) w)
+    (readied-gone v (at k st.table).candidates) from to (c.change_rows.ensures (with_ready v) (λ _ _ p. p.1) (flat_of st) w)

@@ -10,10 +10,10 @@ loop-i-preserved c = (
   omega arith,
   λ f w.
       let z = sizes w in
-      over_step f.rows (found c.loop-i.greatest) c.row_at-r.result c.loop-i.i c.args.to
-      (omega arith) (omega (arith, c.requires.2)) c.greater-greatest.ensures (c.row_at-r.ensures f c.row_at-r.result w)
+      over_step f.rows (found c.loop-i.greatest) c.row_at-r.result c.loop-i.i c.args.w.to
+      (omega arith) (omega (arith, c.requires.1)) c.greater-greatest.ensures (c.row_at-r.ensures f c.row_at-r.result w)
       (c.loop-i.invariant.1 f w),
 )
 
 pub returns : goal.returns
-returns c = λ f w. sym (over_none f.rows (found c.loop-i.greatest) c.loop-i.i c.args.to (omega arith)) ∙ c.loop-i.invariant.1 f w
+returns c = λ f w. sym (over_none f.rows (found c.loop-i.greatest) c.loop-i.i c.args.w.to (omega arith)) ∙ c.loop-i.invariant.1 f w

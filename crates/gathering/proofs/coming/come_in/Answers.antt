@@ -8,9 +8,9 @@ returns-then-new-eq0 c = nobody_in c.if-new-eq0.true
 pub add_rows-requires : goal.add_rows-requires
 add_rows-requires c = let r = room_for c.requires in (r.0, r.1)
 
-pub count_more-requires : goal.count_more-requires
-count_more-requires c = with_shown c.requires c.add_rows.ensures
+pub count_in-requires : goal.count_in-requires
+count_in-requires c = with_shown c.requires c.add_rows.ensures
     c.if-new-eq0.false
 
 pub returns : goal.returns
-returns c = arrived c.add_rows.ensures c.count_more.ensures
+returns c = arrived c.add_rows.ensures c.count_in.ensures

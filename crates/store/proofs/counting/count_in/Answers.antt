@@ -3,40 +3,33 @@ use Prim.Native.Nat.{◌<◌}
 use lib.ListN.{length}
 use Rattle.store.proofs.Frame.{sizes}
 use Rattle.store.proofs.Tally.{fresh}
-use Rattle.store.proofs.Counted.{light_at, counted_in, counted_new}
+use Rattle.store.proofs.Counted.{light_at}
+use Rattle.store.proofs.Raising.{raised_found, raised_new}
 use Rattle.store.proofs.counting.count_in.Goals as goal
 
 pub conn_at-c-requires : goal.conn_at-c-requires
-conn_at-c-requires c = (c.requires.0, c.is_entry.ensures.inside c.if-is_entry.true)
+conn_at-c-requires c = (c.requires.0, c.in-Ok.ensures.inside)
 
-pub overflow_add-d : goal.overflow_add-d
-overflow_add-d c = omega (
+pub overflow_add-e : goal.overflow_add-e
+overflow_add-e c = omega (
   arith,
-  light_at c.requires.0
-      c.seek_conn-i.result (fresh 0 0) (c.is_entry.ensures.inside
-      c.if-is_entry.true) (c.conn_at-c.ensures c.requires.0.flat (fresh 0 0)
-      c.requires.0.shows),
+  c.requires,
+  light_at c.requires.0 c.in-Ok.i (fresh 0 0) c.in-Ok.ensures.inside (c.conn_at-c.ensures c.requires.0.flat (fresh 0 0) c.requires.0.shows),
 )
 
 pub set_conn-requires : goal.set_conn-requires
-set_conn-requires c = (
-  c.requires.0,
-  c.is_entry.ensures.inside c.if-is_entry.true,
-)
+set_conn-requires c = (c.requires.0, c.in-Ok.ensures.inside)
 
-pub returns-then-is_entry : goal.returns-then-is_entry
-returns-then-is_entry c = λ f so h.
+pub returns-in-Ok : goal.returns-in-Ok
+returns-in-Ok c = λ f so h.
     let d = fresh 0 0 in
     let z = sizes h in
-    let bd = c.seek_conn-i.ensures.bound f h so in
-    let l : c.seek_conn-i.result < length f.conns =
-    omega (arith, c.is_entry.ensures.inside c.if-is_entry.true) in
-    let e = c.is_entry.ensures.is f d h c.if-is_entry.true in
-    let k = c.conn_at-c.ensures f d h in
-    counted_in f bd d l e _ k (c.set_conn.ensures f h)
+    let found = c.in-Ok.ensures in
+    let l : c.in-Ok.i < length f.conns = omega (arith, found.inside) in
+    raised_found f (found.sought.bound f h so) d l (found.is f d h) _ (c.conn_at-c.ensures f d h) c.args.d (c.set_conn.ensures f h)
 
-pub returns-else-is_entry : goal.returns-else-is_entry
-returns-else-is_entry c = λ f so h.
+pub returns-in-Err : goal.returns-in-Err
+returns-in-Err c = λ f so h.
     let d = fresh 0 0 in
-    let bd = c.seek_conn-i.ensures.bound f h so in
-    counted_new f bd d (λ l z. c.is_entry.ensures.not f d h c.if-is_entry.false l z) (c.add_conn.ensures f h)
+    let none = c.in-Err.ensures in
+    raised_new f (none.sought.bound f h so) d (λ l z. none.not f d h l z) c.args.d c.requires.2 (c.add_conn.ensures f h)

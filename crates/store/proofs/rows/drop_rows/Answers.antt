@@ -11,10 +11,10 @@ pub returns : goal.returns
 returns c = λ f h.
     let z = sizes h in
     let n = c.rows-n.ensures.field f h in
-    let a = c.args in
-    let to : a.to ≤ length f.rows = omega (arith, c.requires) in
+    let w = c.args.w in
+    let to : w.to ≤ length f.rows = omega (arith, c.requires) in
     let held = c.remove_rows.ensures.region f.head.limit f.rows (sym n) (rows-lent h c.rows_part-part.ensures) in
-    let m : length (remove_range a.from a.to f.rows) ≡ c.rows-n.result - (a.to - a.from) =
-    length_remove_range f.rows a.from a.to c.requires.1 to ∙
-    ap (λ j. j - (a.to - a.from)) (sym n) in
+    let m : length (remove_range w.from w.to f.rows) ≡ c.rows-n.result - (w.to - w.from) =
+    length_remove_range f.rows w.from w.to w.order to ∙
+    ap (λ j. j - (w.to - w.from)) (sym n) in
     rows-counted h (search rules) _ _ m (rows_back h c.rows_part-part.ensures _ _ c.remove_rows.auto.s held) c.put.ensures.word

@@ -10,11 +10,11 @@ use Rattle.regions.specs.declared.Conn.{Conn}
 use Rattle.regions.specs.Order.{Bound}
 use Rattle.regions.specs.Regions.{insert_at}
 use Rattle.store.specs.Flat.{Flat, bump}
+use Rattle.store.specs.Counting.{raise}
 use Rattle.store.specs.Image.{Shows}
 use Rattle.store.specs.Shown.{conn_names, with_conns}
 use Rattle.store.proofs.Tally.{fresh, more, bump-nil, bump-lt, bump-eq, bump_gt}
 use Rattle.store.proofs.Missing.{name_at}
-use Rattle.gathering.specs.Merges.{raise}
 
 -- an entry with d rows more
 abbrev raised : ℕ → Conn → Conn
