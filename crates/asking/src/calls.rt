@@ -30,6 +30,11 @@ pub enum Asked {
     Hashes(HashesWord, Values, usize),
 }
 
+// The most that a line may open for.
+pub const MOST_ANNOUNCEMENTS: u64 = 100;
+
+pub const MOST_PLACES: u64 = 2;
+
 // An opening, whose fields stand behind the comma at index e.
 fn opening(line: &[u8], e: usize) -> Option<Asked>
     ensures { asked_in line.now result ≡ open_of (rest line.now (e + 1)) }
@@ -39,10 +44,10 @@ fn opening(line: &[u8], e: usize) -> Option<Asked>
     if places.end < line.len() {
         return None;
     }
-    if 100 < limit.value {
+    if MOST_ANNOUNCEMENTS < limit.value {
         return None;
     }
-    if 2 < places.value {
+    if MOST_PLACES < places.value {
         return None;
     }
     Some(Asked::Opening(limit.value, places.value))

@@ -13,8 +13,10 @@ use printing::keys::listing;
 use printing::numbers::unreadable;
 use reading::forms::Values;
 
-// Bytes of the longest answer: 22,045 keys of 40 bytes, for the items of a line and the parents of two packages.
-const ANSWER: usize = 881_800;
+// Keys of the longest answer: those of the 21,845 items that a line has room for, and of the parents of two packages.
+const MOST_KEYS: usize = 22_045;
+
+const ANSWER: usize = MOST_KEYS * lent_lists::KEY;
 
 fn missing_buffer() -> [u8; ANSWER]
     ensures { result ≡ missing_buffer }

@@ -14,14 +14,13 @@ ghost use Rattle.keeping.specs.Steps.{Listable, KeptReply};
 
 use claiming::entries::ENTRY_BYTES;
 use outcome::Refusal;
+use printing::buffers::ANSWER;
 use printing::numbers::refusal;
 use public_plans::Selection;
 use std::marker::Model;
 
-// An answer buffer of this program has room for no more entries.
-const MOST: usize = 107;
-
-const ROOM: usize = MOST * ENTRY_BYTES;
+// Bytes of the entries that an answer buffer of this program has room for.
+const ROOM: usize = ANSWER / ENTRY_BYTES * ENTRY_BYTES;
 
 // A list: `count` entries at the front of its bytes, as calls take and give them.
 #[derive(Drop)]

@@ -14,7 +14,7 @@ use Rattle.machine.specs.Text.{hash_digits, decimal, key_text, joined}
 use Rattle.lines.specs.Text.{Wrote}
 use Rattle.lines.proofs.Writing.{wrote_more, wrote_none}
 use Rattle.printing.specs.Replies.{key_texts, reply_text}
-use Rattle.printing.specs.Given.{answer_room, most_keys, behind, Printed}
+use Rattle.printing.specs.Given.{next_room, answer_room, most_keys, behind, Printed}
 use Rattle.printing.proofs.KeyLists.{key_at, keys_more, texts-append, key-length, length-keys}
 use Rattle.printing.proofs.Printing.{decimal_end}
 
@@ -46,7 +46,7 @@ none_behind out at u e = record { bytes = (wrote_none out at).bytes; next = omeg
 
 pub more_behind : {out₀ out s s' : List ℕ} {at₀ at e r : ℕ} (i : ℕ) (u : Buffer) → at + (2 + hash_digits) ≤ length out₀ → length out ≡ length out₀
     → Wrote out₀ out at₀ (behind (key_texts (keys_in i u))) at
-    → Wrote out s at (44 ∷ []) e → Wrote s s' e (key_text (key_at u i)) r → (r ≤ at + 66) × Wrote out₀ s' at₀ (behind (key_texts (keys_in (i + 1) u))) r
+    → Wrote out s at (44 ∷ []) e → Wrote s s' e (key_text (key_at u i)) r → (r ≤ at + next_room) × Wrote out₀ s' at₀ (behind (key_texts (keys_in (i + 1) u))) r
 more_behind i u h l p q w =
     let k = key-length (key_at u i) in
     (omega (arith, q.next, w.next), rw (next_behind i u) (wrote_more p (wrote_more q w (omega (arith, q.next))) (omega (arith))))
@@ -54,7 +54,7 @@ more_behind i u h l p q w =
 -- ---- the keys of a connection that left
 
 module _ {out₀ : List ℕ} (room : answer_room ≤ length out₀) (u : Buffer) where
-  pub departure_wrote : {out out' : List ℕ} {e r : ℕ} (own n : ℕ) → n ≤ most_keys → Wrote out₀ out 0 (decimal own) e → Wrote out out' e (behind (key_texts (keys_in n u))) r → r ≤ e + 66 * n
+  pub departure_wrote : {out out' : List ℕ} {e r : ℕ} (own n : ℕ) → n ≤ most_keys → Wrote out₀ out 0 (decimal own) e → Wrote out out' e (behind (key_texts (keys_in n u))) r → r ≤ e + next_room * n
       → Printed out₀ out' (joined (decimal own ∷ key_texts (keys_in n u))) r
   departure_wrote own n m p q h =
       let d = decimal_end own p in

@@ -55,6 +55,10 @@ entry_text a = key_text a.key ++ behind (candidate_texts a.candidate)
 abbrev pub key_room : ℕ
 key_room = 1 + hash_digits
 
+-- a key behind a comma
+abbrev pub next_room : ℕ
+next_room = 1 + key_room
+
 abbrev pub kind_room : ℕ
 kind_room = 2 + decimal_digits
 

@@ -13,7 +13,7 @@ use crate::entries::put_number;
 use lines::write::put_bytes;
 
 // Words of an owner in an answer buffer.
-const OWNER: usize = 3;
+pub const OWNER: usize = 3;
 
 // The i-th owner, that of the hash h: `none`, or key, connection and deadline, each behind a comma.
 fn put_owner(out: &mut [u8], at: usize, answer: &[u8], i: usize, h: regions::Quad) -> usize

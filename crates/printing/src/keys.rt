@@ -3,10 +3,10 @@ ghost use Rattle.std.specs.Prelude.{◌≡◌, ◌+◌, ◌*◌, ◌≤◌, ◌�
 ghost use Rattle.machine.specs.Call.{key_bytes};
 ghost use Rattle.lent_lists.specs.Lists.{key_in, keys_in};
 ghost use Rattle.outcome.specs.Reply.{listing_of};
-ghost use Rattle.machine.specs.Text.{decimal, hash_digits, key_text, joined};
+ghost use Rattle.machine.specs.Text.{decimal, key_text, joined};
 ghost use Rattle.lines.specs.Text.{Wrote};
 ghost use Rattle.printing.specs.Replies.{listed, key_texts};
-ghost use Rattle.printing.specs.Given.{answer_room, most_keys, next_text, behind, KeysFit, Printed, ReplyPrinted};
+ghost use Rattle.printing.specs.Given.{answer_room, most_keys, key_room, next_room, next_text, behind, KeysFit, Printed, ReplyPrinted};
 
 use crate::numbers::refusal;
 use lines::write::put_bytes;
@@ -14,7 +14,7 @@ use outcome::Refusal;
 
 // The i-th key.
 fn put_key(out: &mut [u8], at: usize, answer: &[u8], i: usize) -> usize
-    requires { (key_bytes * i + key_bytes ≤ length answer.now) × (at + (1 + hash_digits) ≤ length out.old) }
+    requires { (key_bytes * i + key_bytes ≤ length answer.now) × (at + key_room ≤ length out.old) }
     ensures { Wrote out.old out.new at (key_text (key_in (take key_bytes (drop (key_bytes * i) answer.now)))) result }
 {
     crate::entries::put_key(out, at, lent_lists::key_at(answer, i))
@@ -22,7 +22,7 @@ fn put_key(out: &mut [u8], at: usize, answer: &[u8], i: usize) -> usize
 
 // The i-th key, behind a comma if it is not the first.
 fn put_next(out: &mut [u8], at: usize, answer: &[u8], i: usize) -> usize
-    requires { (key_bytes * i + key_bytes ≤ length answer.now) × (at + (2 + hash_digits) ≤ length out.old) }
+    requires { (key_bytes * i + key_bytes ≤ length answer.now) × (at + next_room ≤ length out.old) }
     ensures { Wrote out.old out.new at (next_text i (key_text (key_in (take key_bytes (drop (key_bytes * i) answer.now))))) result }
 {
     if i == 0 {
@@ -60,8 +60,8 @@ pub fn listing(out: &mut [u8], answer: &[u8], a: Result<u64, Refusal>) -> usize
 
 // The first n keys, each behind a comma. (As `entries::put_behind`.)
 fn put_behind(out: &mut [u8], at: usize, answer: &[u8], n: usize) -> usize
-    requires { (at + 66 * n ≤ length out.old) × (key_bytes * n ≤ length answer.now) }
-    ensures { (result ≤ at + 66 * n) × Wrote out.old out.new at (behind (key_texts (keys_in n answer.now))) result }
+    requires { (at + next_room * n ≤ length out.old) × (key_bytes * n ≤ length answer.now) }
+    ensures { (result ≤ at + next_room * n) × Wrote out.old out.new at (behind (key_texts (keys_in n answer.now))) result }
 {
     let mut to = at;
     for i in 0..n {

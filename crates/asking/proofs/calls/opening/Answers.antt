@@ -17,20 +17,20 @@ returns-then-places-line c =
     more_fields c.number_at.ensures (ap number_at c.in_ok-limit.was)
     c.number_at-2.ensures (ap number_at c.in_ok-places.was) c.if-places-line.true
 
-pub returns-then-limit-gt100 : goal.returns-then-limit-gt100
-returns-then-limit-gt100 c =
+pub returns-then-limit-gt-MOST_ANNOUNCEMENTS : goal.returns-then-limit-gt-MOST_ANNOUNCEMENTS
+returns-then-limit-gt-MOST_ANNOUNCEMENTS c =
     limit_above c.number_at.ensures
     (ap number_at c.in_ok-limit.was) c.number_at-2.ensures
-    (ap number_at c.in_ok-places.was) c.if-places-line.false c.if-limit-gt100.true
+    (ap number_at c.in_ok-places.was) c.if-places-line.false c.if-limit-gt-MOST_ANNOUNCEMENTS.true
 
-pub returns-then-places-gt2 : goal.returns-then-places-gt2
-returns-then-places-gt2 c =
+pub returns-then-places-gt-MOST_PLACES : goal.returns-then-places-gt-MOST_PLACES
+returns-then-places-gt-MOST_PLACES c =
     places-above c.number_at.ensures
     (ap number_at c.in_ok-limit.was) c.number_at-2.ensures
-    (ap number_at c.in_ok-places.was) c.if-places-line.false c.if-limit-gt100.false c.if-places-gt2.true
+    (ap number_at c.in_ok-places.was) c.if-places-line.false c.if-limit-gt-MOST_ANNOUNCEMENTS.false c.if-places-gt-MOST_PLACES.true
 
 pub returns : goal.returns
 returns c =
     opening_is c.number_at.ensures
     (ap number_at c.in_ok-limit.was) c.number_at-2.ensures
-    (ap number_at c.in_ok-places.was) c.if-places-line.false c.if-limit-gt100.false c.if-places-gt2.false
+    (ap number_at c.in_ok-places.was) c.if-places-line.false c.if-limit-gt-MOST_ANNOUNCEMENTS.false c.if-places-gt-MOST_PLACES.false

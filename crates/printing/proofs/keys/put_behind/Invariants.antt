@@ -5,8 +5,8 @@ use lib.ListN.{length}
 use Rattle.lent_lists.specs.Lists.{keys_in}
 use Rattle.lines.specs.Text.{Wrote}
 use Rattle.printing.specs.Replies.{key_texts}
-use Rattle.printing.specs.Given.{behind}
+use Rattle.printing.specs.Given.{next_room, behind}
 use Rattle.printing.proofs.keys.put_behind.Given as goal
 
 abbrev pub invariant-loop-i : goal.invariant-loop-i
-invariant-loop-i l = (length l.out ≡ length l.initial.out) × (l.to ≤ l.at + 66 * l.i) × Wrote l.initial.out l.out l.at (behind (key_texts (keys_in l.i l.answer))) l.to
+invariant-loop-i l = (length l.out ≡ length l.initial.out) × (l.to ≤ l.at + next_room * l.i) × Wrote l.initial.out l.out l.at (behind (key_texts (keys_in l.i l.answer))) l.to

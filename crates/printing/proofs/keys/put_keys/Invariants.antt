@@ -6,7 +6,8 @@ use Rattle.lent_lists.specs.Lists.{keys_in}
 use Rattle.lines.specs.Text.{Wrote}
 use Rattle.machine.specs.Text.{joined}
 use Rattle.printing.specs.Replies.{key_texts}
+use Rattle.printing.specs.Given.{next_room}
 use Rattle.printing.proofs.keys.put_keys.Given as goal
 
 abbrev pub invariant-loop-i : goal.invariant-loop-i
-invariant-loop-i l = (length l.out ≡ length l.initial.out) × (l.at ≤ 66 * l.i) × Wrote l.initial.out l.out 0 (joined (key_texts (keys_in l.i l.answer))) l.at
+invariant-loop-i l = (length l.out ≡ length l.initial.out) × (l.at ≤ next_room * l.i) × Wrote l.initial.out l.out 0 (joined (key_texts (keys_in l.i l.answer))) l.at
