@@ -87,13 +87,15 @@ module _ {out₀ : List ℕ} (room : answer_room ≤ length out₀) (u : List �
   unfolding joined key_texts keys_in recs
   start_wrote = wrote_none out₀ 0
 
-  pub more_wrote : {out out' : List ℕ} {i at r : ℕ} → i < most_keys → at ≤ next_room * i → Wrote out₀ out 0 (joined (key_texts (keys_in i u))) at → Wrote out out' at (next_text i (key_text (key_at u i))) r
+  pub more_wrote : {out out' : List ℕ} {i at r : ℕ} → i < most_keys → at ≤ next_room * i → Wrote out₀ out 0 (joined (key_texts (keys_in i u))) at
+      → Wrote out out' at (next_text i (key_text (key_at u i))) r
       → (r ≤ next_room * (i + 1)) × Wrote out₀ out' 0 (joined (key_texts (keys_in (i + 1) u))) r
   more_wrote {out} {out'} {i} {at} {r} l b p q =
       let k = next_length i (key_at u i) in
       (omega (arith, q.next), rw (next_joined i u) (wrote_more p q (omega arith)))
 
-  pub all_wrote : {out : List ℕ} {n at : ℕ} → 1 ≤ n → n ≤ most_keys → at ≤ next_room * n → Wrote out₀ out 0 (joined (key_texts (keys_in n u))) at → Printed out₀ out (listed (key_texts (keys_in n u))) at
+  pub all_wrote : {out : List ℕ} {n at : ℕ} → 1 ≤ n → n ≤ most_keys → at ≤ next_room * n → Wrote out₀ out 0 (joined (key_texts (keys_in n u))) at
+      → Printed out₀ out (listed (key_texts (keys_in n u))) at
   all_wrote {out} {n} {at} one m b p = record { wrote = rw (listed_some (keys_in n u) (omega (arith, length-keys n u))) p; room = omega arith }
 
   pub none_wrote : {out : List ℕ} {n r : ℕ} → n ≡ 0 → Wrote out₀ out 0 (45 ∷ []) r → Printed out₀ out (listed (key_texts (keys_in n u))) r

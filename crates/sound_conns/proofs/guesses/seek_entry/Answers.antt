@@ -15,5 +15,7 @@ returns-then-is_entry-3 c = place_found _ _ _ _ (rw c.if-is_entry-3.true at c.is
 pub returns : goal.returns
 returns c =
     let a = c.args in
-    place-absent (names a.pass.conns.count (words a.pass.conns.bytes.now)) a.pass.conns.count a.x c.seek_conn-i.result (length-names a.pass.conns.count (words a.pass.conns.bytes.now)) c.seek_conn-i.ensures
+    let n = a.pass.conns.count in
+    let w = words a.pass.conns.bytes.now in
+    place-absent (names n w) n a.x c.seek_conn-i.result (length-names n w) c.seek_conn-i.ensures
     (rw c.if-is_entry-3.false at c.is_entry-3.ensures)
