@@ -1,7 +1,6 @@
 -- `==` on the keys of rows tells that they are the same.
 use mathlib.Core.Path.{◌≡◌, refl}
 use mathlib.Core.Bool.{true}
-use lib.Dec.{eqb}
 use borrow.Author.Tests.{eqb-true}
 use Rattle.std.proofs.lemmas.Bool.{and_parts}
 use Rattle.ident.specs.declared.Kind.{Kind}

@@ -1,6 +1,6 @@
 -- Numbers of 64-bit digits compared from the top, and binary search.
-use Prim.Native.Nat.{ℕ, ◌+◌, ◌*◌, ◌/◌, ◌%◌, ◌^◌, ◌≤◌, ◌<◌}
-use mathlib.Core.Path.{◌≡◌, refl, sym, ap, ◌∙◌}
+use Prim.Native.Nat.{ℕ, ◌+◌, ◌-◌, ◌*◌, ◌/◌, ◌%◌, ◌^◌, ◌≤◌, ◌<◌}
+use mathlib.Core.Path.{◌≡◌, refl, sym, ap, subst, ◌∙◌}
 use mathlib.Core.Logic.{◌⊎◌, inl, inr}
 use mathlib.Core.Bool.{Bool, true, false, not}
 use mathlib.Core.List.{List, [], ◌∷◌}
@@ -247,3 +247,15 @@ module _ {ks : List ℕ} {from to x i : ℕ} (p : Passing ks from to x i) where
 
   pub passing_end : to ≤ i → First ks from to x i
   passing_end h = record { least = p.least; most = p.most; none = p.none; found = λ l. absurd (omega arith) }
+
+-- ---- a guess that is tested
+
+module _ {short : ℕ → Bool → Type 0} {n : ℕ} (i : ℕ) (p : 0 < i) (before : short (i - 1) true) where
+  upto : i ≤ n → Bisecting short n i n
+  upto h = let e : i - 1 + 1 ≡ i = omega arith in subst (λ (m : ℕ). Bisecting short n m n) e (bisect_up (bisect_start short n) (i - 1) (omega arith) (omega arith) before)
+
+  pub bound_last : i ≡ n → IsLowerBound short n i
+  bound_last e = bisect_end (upto (omega arith)) (omega arith)
+
+  pub bound_met : i < n → short i false → IsLowerBound short n i
+  bound_met h s = bisect_end (bisect_down (upto (omega arith)) i (omega arith) h s) (omega arith)

@@ -23,6 +23,7 @@ use std::ops::Bound;
 
 pub mod keep;
 pub mod listed;
+pub mod near;
 pub mod ranges;
 mod row_bits; // row_bits.rt: a row's key, and what its bits say
 

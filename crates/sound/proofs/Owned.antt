@@ -1,24 +1,19 @@
 -- The rows of a Wtxid key by a search or by a guess that is tested, and their owner.
-use Prim.Native.Nat.{ℕ, ◌+◌, ◌-◌, ◌*◌, ◌≤◌, ◌<◌}
+use Prim.Native.Nat.{ℕ, ◌+◌, ◌-◌, ◌≤◌, ◌<◌}
 use mathlib.Core.Path.{◌≡◌, refl, sym, ap, ◌∙◌}
-use mathlib.Core.Logic.{inl, inr}
-use mathlib.Core.Bool.{Bool, false, not}
+use mathlib.Core.Bool.{Bool, false}
 use mathlib.Core.List.{List, [], ◌∷◌, ◌++◌}
 use native.Mathlib.Omega.{arith}
-use lib.Dec.{ltb}
-use lib.ListN.{length, take, drop, get_or}
-use borrow.Author.Tests.{ltb-true, ltb-false, eq-eqb, ne_eqb}
+use lib.ListN.{length}
+use borrow.Author.Tests.{eq-eqb, ne_eqb}
 use Rattle.ident.specs.Number.{top, place, wtxid}
-use Rattle.words.specs.Words.{recs, Decides}
+use Rattle.words.specs.Words.{recs}
 use Rattle.words.proofs.Records.{length-recs}
 use Rattle.regions.specs.declared.Row.{Row}
 use Rattle.regions.specs.declared.Quad.{Quad}
-use Rattle.regions.specs.declared.Key.{Key}
-use Rattle.regions.specs.Order.{Sorted, Bound, Sought}
-use Rattle.regions.specs.Rows.{row_size, read_row, row_key, key_of, quad_number, key_number}
-use Rattle.regions.proofs.Rows.{row-key_at}
+use Rattle.regions.specs.Order.{Bound, Sought}
+use Rattle.regions.specs.Rows.{row_size, read_row, row_key, quad_number, key_number}
 use Rattle.machine.specs.Typed.{Each}
-use Rattle.machine.proofs.Tests.{test}
 use Rattle.store.specs.Gather.{key_at}
 use Rattle.store.specs.FlatSound.{count_rows, hash_at, owns, owns_key}
 use Rattle.store.proofs.Counts.{rows_append}
@@ -29,37 +24,6 @@ use Rattle.sound_rows.specs.Groups.{row_at, rows_in, Run}
 use Rattle.sound_rows.proofs.Decide.{rest_all}
 use Rattle.sound_rows.proofs.Groups.{in_split, in_each}
 use Rattle.sound_rows.proofs.Halves.{kind-wtxid, keys-sorted, climb, fits_at, key-at}
-
--- ---- a guess that is tested
-
-pub tested-bound : (ks : List ℕ) (n x i : ℕ) → length ks ≡ n → i ≤ n → (0 < i → get_or ks (i - 1) 0 < x) → (i < n → x ≤ get_or ks i 0) → Sought ks n x i
-unfolding Sorted
-tested-bound ks n x i l m f g = record {
-  most = m;
-  bound = λ s. record {
-    most = omega arith;
-    below = λ k h. omega (arith, s k (i - 1) (omega arith) (omega arith), f (omega arith));
-    above = λ k h q. omega (arith, s i k h q, g (omega arith));
-  };
-}
-
-module _ (w : List ℕ) (n : ℕ) (k : Key) where
-  row-key : (i : ℕ) {m : Key} → i < n → m ≡ key_of (read_row (take row_size (drop (row_size * i) w))) → get_or (recs row_size row_key n w) i 0 ≡ key_number m
-  row-key i h e = row-key_at w n i h ∙ ap key_number (sym e)
-
-  pub short-decides : (i : ℕ) {m : Key} {b : Bool} → i ≤ n → 0 < i → m ≡ key_of (read_row (take row_size (drop (row_size * (i - 1)) w))) → b ≡ ltb (key_number m) (key_number k)
-      → Decides b ((i ≤ n) × (0 < i → get_or (recs row_size row_key n w) (i - 1) 0 < key_number k))
-  short-decides i {m} h p e f = elim (test (ltb (key_number m) (key_number k))) [
-    | inl t ↦ rw (f, t) (h, λ _. rw (row-key (i - 1) (omega arith) e) (ltb-true (key_number m) (key_number k) t))
-    | inr t ↦ rw (f, t) (λ z. omega (arith, z.1 p, row-key (i - 1) (omega arith) e, ltb-false (key_number m) (key_number k) t))
-  ]
-
-  pub past_decides : (i : ℕ) {m : Key} {b : Bool} → i < n → m ≡ key_of (read_row (take row_size (drop (row_size * i) w))) → b ≡ ltb (key_number m) (key_number k)
-      → Decides (not b) (i < n → key_number k ≤ get_or (recs row_size row_key n w) i 0)
-  past_decides i {m} h e f = elim (test (ltb (key_number m) (key_number k))) [
-    | inl t ↦ rw (f, t) (λ z. omega (arith, z h, row-key i h e, ltb-true (key_number m) (key_number k) t))
-    | inr t ↦ rw (f, t) (λ _. rw (row-key i h e) (ltb-false (key_number m) (key_number k) t))
-  ]
 
 -- ---- the rows of a key
 

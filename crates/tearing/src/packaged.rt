@@ -56,7 +56,8 @@ fn stands_at(s: &[u8], i: usize, q: regions::Quad) -> bool
     true
 }
 
-// Where the place of the hash q stands, or would: at the guess, behind it, or by a search.
+// Where the place of the hash q stands, or would: at the guess, behind it, or by a search. (No `regions::near`, which tries one guess: rows of one hash may
+// lead to either place.)
 fn seek_near(s: &[u8], q: regions::Quad, guess: usize) -> usize
     requires { Shown s.now }
     ensures { Seek s.now (λ f. place_hashes f.places) (held_places_in s.now) (quad_number q) result }
