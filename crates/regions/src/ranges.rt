@@ -12,14 +12,14 @@ fn rows_down_by(s: &mut [u8], m: usize, d: usize)
     ensures { words s.new ≡ down (row_size * d) (words s.old) 0 m }
 {
     match d {
-        1 => words::shift_down(s, m, 9),
-        2 => words::shift_down(s, m, 18),
-        3 => words::shift_down(s, m, 27),
-        4 => words::shift_down(s, m, 36),
-        5 => words::shift_down(s, m, 45),
-        6 => words::shift_down(s, m, 54),
-        7 => words::shift_down(s, m, 63),
-        8 => words::shift_down(s, m, 72),
+        1 => words::shift_down(s, m, ROW),
+        2 => words::shift_down(s, m, 2 * ROW),
+        3 => words::shift_down(s, m, 3 * ROW),
+        4 => words::shift_down(s, m, 4 * ROW),
+        5 => words::shift_down(s, m, 5 * ROW),
+        6 => words::shift_down(s, m, 6 * ROW),
+        7 => words::shift_down(s, m, 7 * ROW),
+        8 => words::shift_down(s, m, 8 * ROW),
         _ => words::shift_down(s, m, d * ROW),
     }
 }
