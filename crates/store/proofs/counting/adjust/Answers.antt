@@ -7,17 +7,8 @@ use Rattle.store.proofs.Tally.{fresh}
 use Rattle.store.proofs.Counted.{light_at, adjusted_kept, adjusted_away, adjusted_nowhere}
 use Rattle.store.proofs.counting.adjust.Goals as goal
 
-pub conn_at-requires : goal.conn_at-requires
-conn_at-requires g c = (c.requires.shown, c.in-Ok.ensures.inside)
-
 pub change-requires : goal.change-requires
 change-requires g c = c.requires.can _ (light_at c.requires.shown c.in-Ok.i (fresh 0 0) c.in-Ok.ensures.inside (c.conn_at.ensures c.requires.shown.flat (fresh 0 0) c.requires.shown.shows))
-
-pub set_conn-requires : goal.set_conn-requires
-set_conn-requires g c = (c.requires.shown, c.in-Ok.ensures.inside)
-
-pub drop_conn-requires : goal.drop_conn-requires
-drop_conn-requires g c = (c.requires.shown, c.in-Ok.ensures.inside)
 
 pub returns-in-Some : goal.returns-in-Some
 returns-in-Some g c = λ h a f so w.

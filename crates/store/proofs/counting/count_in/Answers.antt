@@ -7,18 +7,12 @@ use Rattle.store.proofs.Counted.{light_at}
 use Rattle.store.proofs.Raising.{raised_found, raised_new}
 use Rattle.store.proofs.counting.count_in.Goals as goal
 
-pub conn_at-c-requires : goal.conn_at-c-requires
-conn_at-c-requires c = (c.requires.0, c.in-Ok.ensures.inside)
-
 pub overflow_add-e : goal.overflow_add-e
 overflow_add-e c = omega (
   arith,
   c.requires,
   light_at c.requires.0 c.in-Ok.i (fresh 0 0) c.in-Ok.ensures.inside (c.conn_at-c.ensures c.requires.0.flat (fresh 0 0) c.requires.0.shows),
 )
-
-pub set_conn-requires : goal.set_conn-requires
-set_conn-requires c = (c.requires.0, c.in-Ok.ensures.inside)
 
 pub returns-in-Ok : goal.returns-in-Ok
 returns-in-Ok c = λ f so h.
