@@ -23,7 +23,7 @@ pub struct Span {
     pub to: regions::Key,
 }
 
-// Whether the key k is one of from .. to.
+// Whether the key k is one of from .. to. (By `key_less`, whose clause is of the keys' numbers, as this one's: a derived `<=` would need the law of both orders here.)
 fn inside(k: regions::Key, from: regions::Key, to: regions::Key) -> bool
     ensures { result ≡ row_key_in from to k }
 {

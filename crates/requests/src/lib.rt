@@ -71,7 +71,7 @@ pub fn window_of(s: &[u8], k: regions::Key) -> Window
     Window { from, to }
 }
 
-// Whether the request whose rows are from .. to has the mark: its first row has it.
+// Whether the request whose rows are from .. to has the mark: its first row has it. (Two numbers and no `Window`, which would ask more: they may be in any order.)
 pub fn mark_in(s: &[u8], from: usize, to: usize) -> bool
     requires { Shown s.now × (to ≤ rows_in s.now) }
     ensures { MarkIn s.now from to result }

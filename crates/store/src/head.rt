@@ -10,6 +10,8 @@ ghost use Rattle.store.specs.Shown.{limit_at, places_at, rows_at, conns_at, held
 use crate::layout;
 use machine::limits::MAX_ALTERNATES;
 
+// (A function for each count: the contract says which list of a flat state it counts, so that one for all would say word and list at each call.)
+
 // Words of the header.
 pub const HEAD: usize = 24;
 

@@ -4,6 +4,9 @@
 // says that bytes write a flat state, and a contract says what holds of every flat state that the bytes write. A `requires` asks
 // only that counts and sums are in range (`Shown`). `Shown` and `Kept` stay clauses: tried as a ghost field of a struct over `&mut [u8]`, and each
 // function then said in a clause that the reference stays.
+//
+// Rows, connections and places have a function each for one thing done to their lists: one generic over the record would need a trait with the part, the word
+// of the count, the list of a flat state, that list changed, and laws of them, longer than the pairs.
 #![tactic(auto)]
 
 pub mod conns;
