@@ -1,21 +1,19 @@
 -- An entry with one row less that stays in the tally: the entries that have a row are those of the tally with one row less.
-use Prim.Native.Nat.{ℕ, zero, suc, ◌-◌, ◌≤◌, ◌<◌}
-use mathlib.Core.Path.{◌≡◌, refl, sym, ap, subst, ◌∙◌}
+use Prim.Native.Nat.{ℕ, suc, ◌-◌, ◌≤◌, ◌<◌}
+use mathlib.Core.Path.{◌≡◌, refl, sym, ap}
 use mathlib.Core.Logic.{inl, inr}
 use mathlib.Core.List.{List, [], ◌∷◌}
 use native.Mathlib.Omega.{arith}
 use lib.Dec.{eqb}
-use lib.ListN.{length, drop, get_or, set}
+use lib.ListN.{length}
 use Rattle.std.specs.Prelude.{Some}
-use borrow.Author.Tests.{lt-ltb, le-ltb, ltb-true, ltb-false, eqb-true, eqb-false, eq-eqb, ne_eqb}
+use borrow.Author.Tests.{lt-ltb, le-ltb, ltb-true, ltb-false, eqb-true, eqb-false, ne_eqb}
 use Rattle.regions.specs.declared.Conn.{Conn}
-use Rattle.regions.specs.Order.{Sorted, Bound}
+use Rattle.regions.specs.Order.{Sorted}
 use Rattle.machine.specs.Typed.{Each}
 use Rattle.machine.proofs.Tests.{test}
 use Rattle.store.specs.Counting.{adjusted, unbump}
-use Rattle.store.specs.Flat.{Flat}
-use Rattle.store.specs.Image.{Shows}
-use Rattle.store.specs.Shown.{conn_names, Light, with_conns}
+use Rattle.store.specs.Shown.{conn_names, Light}
 use Rattle.store.proofs.Bounds.{Ascend, ascend_weaken, ascend-sorted}
 use Rattle.store.proofs.Tally.{Tallied}
 use Rattle.package_stages.specs.Dead.{filter}

@@ -1,10 +1,6 @@
 -- The tally while rows go: an entry whose last row goes stays, with no row, until all such entries are taken out together.
-use Rattle.std.specs.Prelude.{ℕ, ◌+◌, ◌-◌, ◌≤◌, ◌≡◌, Bool, List, [], ◌∷◌, ltb, eqb, get_or, set, if◌then◌else◌}
+use Rattle.std.specs.Prelude.{ℕ, ◌-◌, Bool, List, [], ◌∷◌, ltb, eqb, if◌then◌else◌}
 use Rattle.regions.specs.declared.Conn.{Conn}
-use Rattle.machine.specs.Table.{one}
-use Rattle.store.specs.Flat.{Flat}
-use Rattle.store.specs.Image.{Shows}
-use Rattle.store.specs.Shown.{with_conns}
 
 -- an entry that has a row
 abbrev pub busy : Conn → Bool

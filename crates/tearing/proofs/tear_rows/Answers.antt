@@ -26,9 +26,6 @@ loop-i-preserved c = tearing_more c.loop-i.invariant
     (omega (arith, c.rows-n.ensures.word, c.loop-i-test.true)) c.tear_row-k.auto.s
     c.tear_row-k.ensures
 
-pub invariant_of-rest : goal.invariant_of-rest
-invariant_of-rest c = record { order = omega (arith, c.loop-i.invariant.less, c.loop-i.invariant.most, c.rows-n.ensures.word) }
-
 pub drop_rows-requires : goal.drop_rows-requires
 drop_rows-requires c = (
   tearing-shown c.loop-i.invariant c.requires,

@@ -1,5 +1,5 @@
 -- The test of `tearing::idle::drop_idle` tells of an entry whether it has a row.
-use mathlib.Core.Path.{◌≡◌, ap}
+use mathlib.Core.Path.{ap}
 use mathlib.Core.List.{[], ◌∷◌}
 use lib.Dec.{lit<}
 use Rattle.words.specs.Words.{words}
