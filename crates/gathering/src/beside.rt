@@ -34,6 +34,7 @@ pub enum Fare {
 }
 
 // With the m that wait L announcements are held.
+#[tactic(auto, using(announcing::proofs::Lent::kept_long, announcing::proofs::Lent::kept_few))]
 pub fn full(s: &[u8], m: usize) -> bool
     requires { Kept s.now × (m ≤ space) }
     ensures { (st : State) → Sound st → Writes s.now st → result ≡ leb st.limit (held st.table + m) }
@@ -85,6 +86,7 @@ fn fares(s: &[u8], new: Records<Row>, k: ident::Key, c: requests::Candidate) -> 
 }
 
 // The row of c, which is to wait under the key k.
+#[tactic(auto, using(requests::proofs::Keeping::kept_shown))]
 pub fn waiting_row(s: &[u8], k: ident::Key, c: requests::Candidate) -> regions::Row
     requires { Kept s.now }
     ensures { RowIn s.now (key_num k) (candidate_of c) result }

@@ -34,6 +34,7 @@ fn drop_row(s: &mut [u8], m: usize, i: usize, v: regions::Row) -> usize
 }
 
 // The first d of the victims listed in `top` go, in one pass.
+#[tactic(auto, using(announcing::proofs::Lent::kept_long))]
 fn drop_victims(s: &mut [u8], top: &Victims, d: usize)
     requires { Kept s.old × (1 ≤ d) × (d ≤ top.now.count) }
     ensures { Gone s.old s.new (words top.now.bytes) top.now.count d }

@@ -5,8 +5,8 @@ use mathlib.Core.Path.{refl}
 use Rattle.machine.specs.Limits.{word}
 use Rattle.machine.proofs.Fail.{FewHashes}
 use Rattle.lent_lists.specs.Lists.{hashes_in}
-use Rattle.lent_lists.proofs.Given.{hashes-fit}
 use Rattle.handing.proofs.Announcing.{handing_none, handing_kept, handing-order, handing-room, handing_more}
+use Rattle.announcing.proofs.Lent.{few_hashes}
 use Rattle.handing.proofs.announce_each.Goals as goal
 
 pub loop-number-init : goal.loop-number-init
@@ -15,7 +15,7 @@ loop-number-init c = handing_none c.args.clock (hashes_in c.args.list.now) c.arg
 pub announce_for-r-requires : goal.announce_for-r-requires
 announce_for-r-requires c =
     let late : c.args.clock < word = omega arith in
-    let few : FewHashes (hashes_in c.args.list.now) = record { hashes = hashes-fit c.args.list.now (λ j. omega (arith, c.type_inv.list j)); few = c.requires.1 } in
+    let few : FewHashes (hashes_in c.args.list.now) = few_hashes c.args.list.now c.type_inv.list c.requires.1 in
     let inside : c.loop-number.number-index < length c.args.conns.now = omega (arith, c.loop-number-test) in (
       handing_kept late few c.requires.2 c.requires.3 c.requires.4 c.loop-number.invariant c.requires.0,
       c.requires.1,
@@ -26,7 +26,7 @@ announce_for-r-requires c =
 pub loop-number-preserved : goal.loop-number-preserved
 loop-number-preserved c =
     let late : c.args.clock < word = omega arith in
-    let few : FewHashes (hashes_in c.args.list.now) = record { hashes = hashes-fit c.args.list.now (λ j. omega (arith, c.type_inv.list j)); few = c.requires.1 } in
+    let few : FewHashes (hashes_in c.args.list.now) = few_hashes c.args.list.now c.type_inv.list c.requires.1 in
     let inside : c.loop-number.number-index < length c.args.conns.now = omega (arith, c.loop-number-test) in
     handing_more late few c.requires.2 c.requires.3 c.requires.4 c.loop-number.invariant _ inside refl
     c.announce_for-r.auto.s c.announce_for-r.ensures

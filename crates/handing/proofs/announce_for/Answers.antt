@@ -3,18 +3,14 @@ use Rattle.machine.proofs.Fail.{FewHashes}
 use Rattle.machine.proofs.AnswerLengths.{length-announce_parents}
 use Rattle.machine.specs.State.{limits_of}
 use Rattle.lent_lists.specs.Lists.{hashes_in}
-use Rattle.lent_lists.proofs.Given.{hashes-fit}
 use Rattle.handing.proofs.Announcing.{merge-room, one_merged}
+use Rattle.announcing.proofs.Lent.{few_hashes}
 use Rattle.handing.proofs.announce_for.Goals as goal
 
 pub merge-requires : goal.merge-requires
 merge-requires c = let kept = c.requires.0 in
     let hs = hashes_in c.args.list.now in
-    let few : FewHashes hs = record {
-      hashes = hashes-fit c.args.list.now
-          (λ j. omega (arith, c.type_inv.list j));
-      few = c.requires.1;
-    } in (
+    let few : FewHashes hs = few_hashes c.args.list.now c.type_inv.list c.requires.1 in (
       c.requires.2,
       omega (
         arith,
@@ -34,11 +30,7 @@ merge-requires c = let kept = c.requires.0 in
 pub returns : goal.returns
 returns c = let hs = hashes_in c.args.list.now in
     let few : FewHashes hs =
-    record {
-      hashes = hashes-fit c.args.list.now
-          (λ j. omega (arith, c.type_inv.list j));
-      few = c.requires.1;
-    } in
+    few_hashes c.args.list.now c.type_inv.list c.requires.1 in
     one_merged c.args.x.number
     c.args.clock hs few
     c.announce_parents-c.ensures c.merge.ensures

@@ -1,18 +1,15 @@
 use Prim.Native.Nat.{◌<◌}
 use native.Mathlib.Omega.{arith}
 use Rattle.ident.specs.Words.{key_num}
-use Rattle.ident.proofs.Words.{key-four, hash_below}
 use Rattle.machine.specs.Limits.{word}
 use Rattle.handing.proofs.Dropping.{drop_kept, drop_peers, drop-room, dropped}
+use Rattle.announcing.proofs.Lent.{key_low}
 use Rattle.handing.proofs.drop_owned.Goals as goal
 
 pub copy_conns-q-requires : goal.copy_conns-q-requires
 copy_conns-q-requires c = let v : c.args.clock < word =
     omega (arith, c.well_formed.1.1.1.0) in
-    drop_kept (key_num c.args.k) (hash_below
-    c.args.k.hash
-    (key-four c.args.k
-    c.well_formed.1.0))
+    drop_kept (key_num c.args.k) (key_low c.args.k c.well_formed.1.0)
     c.args.n.number
     c.args.clock v c.failed.ensures
     c.requires.0
@@ -21,10 +18,7 @@ pub announce_each-requires : goal.announce_each-requires
 announce_each-requires c =
     let v : c.args.clock < word =
     omega (arith, c.well_formed.1.1.1.0) in
-    let small = hash_below
-    c.args.k.hash
-    (key-four c.args.k
-    c.well_formed.1.0) in (
+    let small = key_low c.args.k c.well_formed.1.0 in (
       drop_kept (key_num c.args.k) small
           c.args.n.number
           c.args.clock v
@@ -54,7 +48,7 @@ announce_each-requires c =
 pub returns : goal.returns
 returns c =
     let v : c.args.clock < word = omega (arith, c.well_formed.1.1.1.0) in
-    let small = hash_below c.args.k.hash (key-four c.args.k c.well_formed.1.0) in
+    let small = key_low c.args.k c.well_formed.1.0 in
     dropped (key_num c.args.k) small c.args.n.number c.args.clock v c.failed.ensures
     c.requires.1 _ c.parents_for-parents.ensures.1 _
     c.copy_conns-q.ensures.1

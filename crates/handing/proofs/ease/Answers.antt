@@ -1,16 +1,15 @@
 use Prim.Native.Nat.{◌<◌}
 use native.Mathlib.Omega.{arith}
 use Rattle.ident.specs.Words.{key_num}
-use Rattle.ident.proofs.Words.{key-four, hash_below}
 use Rattle.machine.specs.Limits.{word}
 use Rattle.handing.proofs.GivingBack.{ready_kept, leave-free, eased_made}
+use Rattle.announcing.proofs.Lent.{key_low}
 use Rattle.handing.proofs.ease.Goals as goal
 
 pub ready_all-requires : goal.ready_all-requires
 ready_all-requires c = let v : c.args.clock < word =
     omega (arith, c.well_formed.1.1.1.0) in
-    ready_kept (key_num c.args.k) (hash_below c.args.k.hash
-    (key-four c.args.k c.well_formed.1.0))
+    ready_kept (key_num c.args.k) (key_low c.args.k c.well_formed.1.0)
     c.args.n c.args.clock v
     c.requires.1 c.unclaim.ensures c.requires.0
 
@@ -18,9 +17,7 @@ pub leave-requires : goal.leave-requires
 leave-requires c = let v : c.args.clock < word =
     omega (arith, c.well_formed.1.1.1.0) in
     leave-free (key_num c.args.k)
-    (hash_below c.args.k.hash
-    (key-four c.args.k
-    c.well_formed.1.0))
+    (key_low c.args.k c.well_formed.1.0)
     c.args.n
     c.args.clock v
     c.requires.1 c.unclaim.ensures
@@ -31,9 +28,7 @@ pub returns : goal.returns
 returns c = let v : c.args.clock < word =
     omega (arith, c.well_formed.1.1.1.0) in
     eased_made (key_num c.args.k)
-    (hash_below c.args.k.hash
-    (key-four c.args.k
-    c.well_formed.1.0))
+    (key_low c.args.k c.well_formed.1.0)
     c.args.n
     c.args.clock v
     c.requires.1

@@ -1,7 +1,7 @@
 use Rattle.ident.specs.Words.{key_num}
-use Rattle.ident.proofs.Words.{key-four, hash_below}
 use Rattle.requests.specs.Changes.{candidate_of}
 use Rattle.announcing.proofs.Entering.{room_in, answered-room}
+use Rattle.announcing.proofs.Lent.{key_low}
 use Rattle.announcing.proofs.keyed.announce_at.Goals as goal
 
 pub push-requires : goal.push-requires
@@ -11,4 +11,4 @@ push-requires c =
 
 pub returns-in-Enters : goal.returns-in-Enters
 returns-in-Enters c = answered-room (key_num c.args.k) (candidate_of c.args.c) c.in-Enters.ensures
-    (hash_below c.args.k.hash (key-four c.args.k c.well_formed.1.0)) c.push.ensures
+    (key_low c.args.k c.well_formed.1.0) c.push.ensures

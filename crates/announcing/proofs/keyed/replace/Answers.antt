@@ -1,6 +1,6 @@
 use Rattle.ident.specs.Words.{key_num}
-use Rattle.ident.proofs.Words.{key-four, hash_below}
 use Rattle.announcing.proofs.Entering.{fresh, cleared-sound, cleared-fresh, cleared-room, cleared_kept, cut-writes}
+use Rattle.announcing.proofs.Lent.{key_low}
 use Rattle.announcing.proofs.keyed.replace.Goals as goal
 
 pub push-requires : goal.push-requires
@@ -18,9 +18,7 @@ returns c = λ st s w u.
     let k = key_num c.args.k in
     let n = c.args.c.connection in
     let g = c.requires.1 st s w in
-    let small = hash_below c.args.k.hash
-    (key-four c.args.k
-    c.well_formed.1.1.0) in
+    let small = key_low c.args.k c.well_formed.1.1.0 in
     let sound = cleared-sound st s c.args.r g in
     c.push.ensures _ sound (cut-writes st s c.args.r g
     c.key_of.ensures c.cut.ensures w)

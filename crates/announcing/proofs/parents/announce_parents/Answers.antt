@@ -12,8 +12,8 @@ use Rattle.machine.specs.Claim.{elem}
 use Rattle.machine.specs.Step.{key_answer}
 use Rattle.machine.proofs.Fail.{Peer, FewHashes}
 use Rattle.lent_lists.specs.Lists.{hashes_in}
-use Rattle.lent_lists.proofs.Given.{hashes-fit}
 use Rattle.announcing.proofs.Listing.{turned_start, turned_as, turned_repeat, turned_kept, turned_left, turned_more}
+use Rattle.announcing.proofs.Lent.{few_hashes, peer_of}
 use Rattle.announcing.proofs.parents.announce_parents.Goals as goal
 use Rattle.announcing.proofs.parents.announce_parents.Goals.{then-not-occurs_before, then-announce_parent, else-announce_parent, else-not-occurs_before}
 
@@ -31,22 +31,15 @@ loop-i-init c = turned_start _ _ _ _ _
 pub announce_parent-requires : goal.announce_parent-requires
 announce_parent-requires c = (turned_kept c.loop-i.invariant
     (omega (arith, c.loop-i-test.true, c.hashes-count.ensures)) _
-    c.hash_in-h.ensures (record { positive = c.args.n.positive; small = omega arith }) (omega arith) (record {
-      hashes = hashes-fit c.args.parents.now
-          (λ j. omega (arith, c.type_inv.parents j));
-      few = c.requires.1;
-    }) c.requires.0)
+    c.hash_in-h.ensures (peer_of c.args.n (omega arith)) (omega arith) (few_hashes c.args.parents.now c.type_inv.parents c.requires.1) c.requires.0)
 
 pub loop-i-preserved : goal.loop-i-preserved
 loop-i-preserved c =
     let hs = hashes_in c.args.parents.now in
     let v = c.loop-i.invariant in
     let inside : c.loop-i.i < length hs = omega (arith, c.loop-i-test.true, c.hashes-count.ensures) in
-    let few : FewHashes hs = record {
-      hashes = hashes-fit c.args.parents.now (λ j. omega (arith, c.type_inv.parents j));
-      few = c.requires.1;
-    } in
-    let peer : Peer c.args.n.number = record { positive = c.args.n.positive; small = omega arith } in
+    let few : FewHashes hs = few_hashes c.args.parents.now c.type_inv.parents c.requires.1 in
+    let peer : Peer c.args.n.number = peer_of c.args.n (omega arith) in
     let late : c.args.clock < word = omega arith in
     elim c.if-not-occurs_before.branch [
       | then-not-occurs_before w ↦

@@ -1,8 +1,7 @@
 -- `apart::displacing::announce_unaided` meets its contract.
-use Rattle.ident.proofs.Words.{hash-four, hash_below}
 use Rattle.apart.proofs.NextParent.{unaided_shut}
+use Rattle.announcing.proofs.Lent.{hash_low}
 use Rattle.apart.proofs.displacing.announce_unaided.Goals as goal
 
 pub returns-then-shut_out : goal.returns-then-shut_out
-returns-then-shut_out c = unaided_shut c.shut_out.ensures c.if-shut_out.true (hash_below c.args.h (hash-four c.args.h
-    c.well_formed.1.1.1.0))
+returns-then-shut_out c = unaided_shut c.shut_out.ensures c.if-shut_out.true (hash_low c.args.h c.well_formed.1.1.1.0)

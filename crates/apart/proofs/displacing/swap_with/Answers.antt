@@ -3,8 +3,8 @@ use mathlib.Core.Path.{refl, ap}
 use native.Mathlib.Omega.{arith}
 use Rattle.machine.specs.State.{Candidate}
 use Rattle.apart.proofs.ForVictims.{supplies_underway, swaps_none, swaps_if}
-use Rattle.ident.proofs.Words.{hash-four, hash_below}
 use borrow.Author.Rules.{rules}
+use Rattle.announcing.proofs.Lent.{hash_low, peer_of}
 use Rattle.apart.proofs.displacing.swap_with.Goals as goal
 
 pub returns-then-q : goal.returns-then-q
@@ -20,8 +20,8 @@ exchange-requires c = (
 
 pub returns : goal.returns
 returns c = (
-  swaps_if (record { positive = c.args.p.connection.positive; small = omega arith }) (omega arith) (omega (arith, c.requires.2)) c.requires.1
-      (hash_below c.hash-h.result (hash-four c.hash-h.result c.hash-h.type_inv)) c.hash-h.ensures (omega (arith, c.if-q.false)) c.exchange.result c.eq.ensures c.offered-c.ensures
+  swaps_if (peer_of c.args.p.connection (omega arith)) (omega arith) (omega (arith, c.requires.2)) c.requires.1
+      (hash_low c.hash-h.result c.hash-h.type_inv) c.hash-h.ensures (omega (arith, c.if-q.false)) c.exchange.result c.eq.ensures c.offered-c.ensures
       c.exchange.ensures,
   refl,
 )

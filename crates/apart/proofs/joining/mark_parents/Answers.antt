@@ -1,8 +1,8 @@
 -- `apart::joining::mark_parents` meets its contract.
 use mathlib.Core.Path.{refl, ◌∙◌}
 use native.Mathlib.Omega.{arith}
-use Rattle.ident.proofs.Words.{hash-four, hash_below}
 use Rattle.apart.proofs.Alongside.{marking-starts, marking_kept, marking_goes, marking-ends}
+use Rattle.announcing.proofs.Lent.{hash_low}
 use Rattle.apart.proofs.joining.mark_parents.Goals as goal
 
 pub loop-j-init : goal.loop-j-init
@@ -16,8 +16,7 @@ loop-j-preserved c = (
   (omega (arith, c.loop-j.invariant.0), omega (arith, c.loop-j-test.true)),
   c.mark.auto.s ∙ c.loop-j.invariant.1,
   marking_goes c.loop-j.invariant.2
-      c.loop-j-test.true (hash_below c.parent_of-h.result
-      (hash-four c.parent_of-h.result c.parent_of-h.type_inv))
+      c.loop-j-test.true (hash_low c.parent_of-h.result c.parent_of-h.type_inv)
       c.parent_of-h.ensures c.from.ensures c.mark.ensures,
 )
 

@@ -3,11 +3,11 @@ use Prim.Native.Nat.{◌<◌}
 use mathlib.Core.Path.{refl}
 use native.Mathlib.Omega.{arith}
 use Rattle.ident.specs.Words.{key_num}
-use Rattle.ident.proofs.Words.{key-four, hash_below}
 use Rattle.machine.specs.Limits.{word}
 use Rattle.apart.proofs.OneOwner.{all_room, lent_kept, found_held, found_inside, expired-without, expired_with}
 use Rattle.apart.proofs.Forgetting.{room_within}
 use borrow.Author.Rules.{rules}
+use Rattle.announcing.proofs.Lent.{key_low}
 use Rattle.apart.proofs.lapsing.expire_one.Goals as goal
 
 pub failed-requires : goal.failed-requires
@@ -18,7 +18,7 @@ returns-in_default c = record {
   most = λ l. l;
   goes = λ st xs o n own.
       let late : c.args.clock < word = omega arith in
-      expired-without o (key_num c.args.k) c.args.n.number c.args.clock late (hash_below c.args.k.hash (key-four c.args.k c.well_formed.1.1.1.1.0)) own
+      expired-without o (key_num c.args.k) c.args.n.number c.args.clock late (key_low c.args.k c.well_formed.1.1.1.1.0) own
       (c.find.ensures.none c.in_default.is st.places xs n o.slots o.ascend) c.failed.auto.s c.failed.ensures (search rules) refl c.requires.1;
 }
 

@@ -1,15 +1,15 @@
 -- `gathering::beside::fares` meets its contract.
 use native.Mathlib.Omega.{arith}
 use Rattle.ident.specs.Words.{key_num}
-use Rattle.ident.proofs.Words.{key-four, hash_below}
 use Rattle.requests.specs.Changes.{candidate_of}
 use Rattle.gathering.proofs.Faring.{fares-full, fares-barred, fares-crowded, fares_in}
+use Rattle.announcing.proofs.Lent.{key_low}
 use Rattle.gathering.proofs.beside.fares.Goals as goal
 
 pub returns-then-full : goal.returns-then-full
 returns-then-full c =
     let k = c.args.k in
-    let small = hash_below k.hash (key-four k c.well_formed.1.1.0) in
+    let small = key_low k c.well_formed.1.1.0 in
     record {
       spare = λ e. cc;
       fares = λ st s w es a. fares-full st s (key_num k) (candidate_of
@@ -19,7 +19,7 @@ returns-then-full c =
 pub returns-then-barred : goal.returns-then-barred
 returns-then-barred c =
     let k = c.args.k in
-    let small = hash_below k.hash (key-four k c.well_formed.1.1.0) in
+    let small = key_low k c.well_formed.1.1.0 in
     record {
       spare = λ e. cc;
       fares = λ st s w es a. fares-barred st s (key_num k) (candidate_of
@@ -29,7 +29,7 @@ returns-then-barred c =
 pub returns-then-crowded : goal.returns-then-crowded
 returns-then-crowded c =
     let k = c.args.k in
-    let small = hash_below k.hash (key-four k c.well_formed.1.1.0) in
+    let small = key_low k c.well_formed.1.1.0 in
     record {
       spare = λ e. cc;
       fares = λ st s w es a. fares-crowded st s (key_num k) (candidate_of c.args.c) small a
@@ -39,7 +39,7 @@ returns-then-crowded c =
 pub returns : goal.returns
 returns c =
     let k = c.args.k in
-    let small = hash_below k.hash (key-four k c.well_formed.1.1.0) in
+    let small = key_low k c.well_formed.1.1.0 in
     record {
       spare = λ e. omega (arith, c.if-new-ge-SPACE.false);
       fares = λ st s w es a. fares_in st s (key_num k) (candidate_of c.args.c) small a

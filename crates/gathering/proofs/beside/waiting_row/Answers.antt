@@ -3,12 +3,9 @@ use mathlib.Core.Path.{◌∙◌}
 use Rattle.ident.specs.Words.{key_num}
 use Rattle.machine.specs.Table.{at}
 use Rattle.store.specs.Flat.{flat_of}
-use Rattle.requests.proofs.Keeping.{kept_shown, from_at, to_at}
+use Rattle.requests.proofs.Keeping.{from_at, to_at}
 use Rattle.requests.proofs.Pushing.{its-hash, its-kind, its-mark}
 use Rattle.gathering.proofs.beside.waiting_row.Goals as goal
-
-pub mark_in-mark-requires : goal.mark_in-mark-requires
-mark_in-mark-requires c = (kept_shown c.requires, c.window_of-w.ensures.most)
 
 pub returns : goal.returns
 returns c = λ st s w o.

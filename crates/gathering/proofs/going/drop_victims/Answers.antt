@@ -1,13 +1,9 @@
 -- `gathering::going::drop_victims` meets its contract.
 use native.Mathlib.Omega.{arith}
-use Rattle.store.proofs.Frame.{sizes}
 use Rattle.announcing.specs.Falls.{goes_by}
 use Rattle.announcing.proofs.DroppingRows.{dropping_none, dropping_rows, dropping_shown, dropping_more, dropping_end}
 use Rattle.gathering.proofs.Departing.{gone_at_once}
 use Rattle.gathering.proofs.going.drop_victims.Goals as goal
-
-pub rows-n-requires : goal.rows-n-requires
-rows-n-requires c = omega (arith, sizes c.requires.0.writes)
 
 pub loop-i-init : goal.loop-i-init
 loop-i-init c = dropping_none _ (goes_by c.get-v.result)
