@@ -1,5 +1,6 @@
 // The checked list of a claim (document 01, module 5): a lent list of records, each entry handed by value to the claim of one entry. (Of entry structs: C and the
-// event program hand over bytes, which go by `entries::claim_bytes`.)
+// event program hand over bytes, which go by `entries::claim_bytes`, so no crate calls this. It is what document 01 describes, and docs/DECISIONS.md and
+// docs/CALLS.md name it.)
 ghost use Rattle.std.specs.Prelude.{map, ◌*◌, ◌≤◌, length};
 ghost use Rattle.machine.specs.Call.{entry_bytes};
 ghost use Rattle.store.specs.Shown.{Kept};

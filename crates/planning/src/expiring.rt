@@ -16,7 +16,7 @@ pub struct Overdue {
     pub connection: u64,
 }
 
-// The first of the rows from `from` on whose owner's time is over.
+// The first of the rows from `from` on whose owner's time is over. (A loop: the contract says where the row stands, which a `find` among rows does not tell.)
 fn seek_due(s: &[u8], clock: u64, from: usize) -> Option<regions::Row>
     requires { Kept s.now × (from ≤ rows_in s.now) }
     ensures { SeekDue s.now clock from result }

@@ -56,7 +56,8 @@ fn hand(out: &mut [u8], v: Batch, r: regions::Row) -> Batch
     }
 }
 
-// Hands out the keys of the rows from .. to, behind those of v, as long as there are fewer than `most`. (`most` is a limit of the machine: `out` may be longer.)
+// Hands out the keys of the rows from .. to, behind those of v, as long as there are fewer than `most`. (`most` is a limit of the machine: `out` may be longer. Plans, owners
+// and the next look walk over keys in the same way, and stop, pass and add up otherwise: one walk over a closure would ask in clauses how what it keeps goes on, longer than the loop.)
 pub fn keys_in(s: &[u8], from: usize, to: usize, most: usize, out: &mut [u8], v: Batch) -> Batch
     requires { Shown s.now × (from ≤ to) × (to ≤ rows_in s.now) × (v.count ≤ most) × (v.count + to ≤ limit_in s.now + from) × (key_bytes * min most (limit_in s.now) ≤ length out.old) }
     ensures { Walks s.now from to most out.old out.new v result }
