@@ -26,7 +26,7 @@ use Rattle.apart.proofs.OneOwner.{picked-clear, noted_none}
 use Rattle.selecting.specs.declared.Scan.{Scan}
 use Rattle.selecting.specs.Phasing.{Roomy, Scans}
 use Rattle.planning.specs.Noting.{PlaceScans, NotedScans, NotedPhased}
-use Rattle.selecting.proofs.Walked.{phasing_as, scans_start, scans_as, scans_for, scans_full, Opened, phased}
+use Rattle.selecting.proofs.Walked.{phasing_as, scans_start, scans_as, scans_for, Opened, phased}
 
 -- ---- bits
 
@@ -100,12 +100,6 @@ noted_over (suc e) [] c = noted_none [] (λ j d g h. absurd (omega arith))
 noted_over (suc e) (x ∷ xs) c = noted_over e xs (λ j d g h. c (suc j) d (omega arith) (omega arith))
 
 module _ {b f : List ℕ} {m e : ℕ} {p : List ℕ} {now : ℕ} {v : Scan} where
-  pub noted_starts : Kept (take m b) → Roomy v → NotedScans b b f m e 0 p p now v v
-  noted_starts k r = record {
-    ahead = record { rest = refl; kept = k; roomy = r; near = omega arith };
-    goes = λ Q xs n s z. scans_start (λ st. noted xs) v k r;
-  }
-
   module _ {b₁ q : List ℕ} {i : ℕ} {w : Scan} (x : NotedScans b b₁ f m e i p q now v w) where
     pub noted_goes : {b₂ q₂ : List ℕ} {w₂ : Scan} → i < e → PlaceScans b₁ b₂ f m i q q₂ now w w₂ → NotedScans b b₂ f m e (i + 1) p q₂ now v w₂
     noted_goes {b₂} {q₂} {w₂} h y = record {
@@ -117,15 +111,6 @@ module _ {b f : List ℕ} {m e : ℕ} {p : List ℕ} {now : ℕ} {v : Scan} wher
           let g = scans_as (x.goes Q xs n s z) (λ st. noted_of a ++ noted (drop (i + 1) xs)) (list_most * i) (omega arith) (λ st k u o. noted_next xs i nowhere l) in
           scans_as (scans_part (noted_of a) (noted (drop (i + 1) xs)) g t) (λ st. noted (drop (i + 1) xs)) (list_most * (i + 1)) (omega arith) (λ st k u o. refl);
     }
-
-    pub noted_full : i ≤ e → w.full ≡ true → NotedScans b b₁ f m e e p q now v w
-    noted_full h full = record {
-      ahead = record { rest = x.ahead.rest; kept = x.ahead.kept; roomy = x.ahead.roomy; near = omega (arith, x.ahead.near) };
-      goes = λ Q xs n s z. scans_full (x.goes Q xs n s z) (λ st. noted (drop e xs)) (list_most * e) (omega arith) full;
-    }
-
-    pub noted_done : i ≡ e → NotedScans b b₁ f m e e p q now v w
-    noted_done c = subst (λ (j : ℕ). NotedScans b b₁ f m e j p q now v w) c x
 
 pub noted_phased : {b b' f : List ℕ} {m e : ℕ} {p p' : List ℕ} {now : ℕ} {v v₁ w : Scan} → Opened v v₁ → NotedScans b b' f m e e p p' now v₁ w → NotedPhased b b' f m e p p' now v w
 noted_phased {e = e} {v = v} o x = record {

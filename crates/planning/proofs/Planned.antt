@@ -24,7 +24,7 @@ use Rattle.store.specs.Shown.{limit_in, held_places_in, Kept}
 use Rattle.store.proofs.Frame.{sizes}
 use Rattle.requests.specs.Changes.{Tells}
 use Rattle.apart.specs.Bare.{bare, bare_state}
-use Rattle.apart.specs.Apart.{at_rest, resting, plain, Room, Forgotten, Apart, Parted, Rested, SetApart, PutBack}
+use Rattle.apart.specs.Apart.{at_rest, resting, plain, Forgotten, Apart, Parted, Rested, SetApart, PutBack}
 use Rattle.apart.specs.Lapsing.{noted}
 use Rattle.apart.proofs.SlotWords.{plain-long}
 use Rattle.apart.proofs.Forgetting.{forgotten_apart, forgotten_behind}
@@ -48,9 +48,6 @@ pub expired-parted : {b b₁ f f₁ : List ℕ} {m c now e : ℕ} → ExpiresAll
 expired-parted {now = now} x p =
     let g = x.goes p.state p.places p.apart p.count in
     record { state = on_table (machine.expired now p.state).table p.state; places = g.places; apart = g.apart; count = g.count }
-
-pub room_same : {b b' f : List ℕ} {m n : ℕ} → Room b f m n → length b' ≡ length b → Room b' f m n
-room_same r e = record { first = r.first; front = omega (arith, r.front); rest = omega (arith, r.rest) }
 
 pub begun : {b b₁ b₂ b₃ f f₁ f₃ : List ℕ} {m c now e : ℕ} {p p₂ : List ℕ} {v w : Scan} → c ≤ max_places → ExpiresAll b b₁ f f₁ m c now e → Fresh v → NotedPhased b₁ b₂ f₁ m e p p₂ now v w
     → Forgotten b₂ b₃ f₁ f₃ m e → length b₃ ≡ length b₁ → length f₃ ≡ length f₁ → Begins b b₃ f f₃ m c p₂ now w

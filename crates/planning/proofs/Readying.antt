@@ -126,13 +126,6 @@ made_ready {b} {b'} {now} w m = record { sound = λ st s. sound_each now (due no
 
 -- ---- all
 
-pub made_kept : {b b' : List ℕ} {now : ℕ} → MadeReady b b' now → Kept b → Kept b'
-made_kept {now = now} x k = record {
-  state = on_table (ready_each now (due now k.state.table) k.state.table) k.state;
-  sound = x.sound k.state k.sound;
-  writes = x.table k.state k.sound k.writes tt;
-}
-
 pub made_silent : {b b₁ b₂ : List ℕ} {now : ℕ} → MadeReady b b₁ now → Makes b₁ b₂ Placeless (dropped_all now) → Makes b b₂ Placeless (silenced now)
 made_silent {now = now} x m st s g p =
     let t = st.table in

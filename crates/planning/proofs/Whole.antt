@@ -21,7 +21,7 @@ use Rattle.machine.proofs.Plan.{keys-typed, round-typed}
 use Rattle.machine.proofs.Tests.{never}
 use Rattle.store.specs.Flat.{flat_of, rows_of}
 use Rattle.store.specs.Image.{Writes, Bytes}
-use Rattle.store.specs.Shown.{limit_in, rows_in, Kept}
+use Rattle.store.specs.Shown.{limit_in, Kept}
 use Rattle.store.proofs.Frame.{sizes}
 use Rattle.store.proofs.Stored.{written_bytes}
 use Rattle.announcing.specs.Evicts.{entry_at}
@@ -85,9 +85,6 @@ module _ (p : List ℕ) {n : ℕ} (h : n ≤ length p) where
 
   pub front_closed : {b b' : List ℕ} (u : List ℕ) {u' : List ℕ} → Closed b b' (take n p) (length (take n p)) u u' → Closed b b' p n u u'
   front_closed u x now st l s m = x now st l s (front_marks m)
-
-  pub front_rows : (b : List ℕ) → RowsOfStore b p n → RowsOfStore b (take n p) (length (take n p))
-  front_rows b r j k = subst (λ (i : ℕ). i < rows_in b) (sym (front-number j k)) (r j (omega (arith, front-long)))
 
 pub closed : {b b' p q : List ℕ} (u : List ℕ) {u' : List ℕ} {n : ℕ} → n ≤ length q → SortedRows b p n q → EntriesPut b (take n q) (length (take n q)) u u' → GivenBack b b' p n
     → Closed b b' p n u u'

@@ -5,7 +5,7 @@ use mathlib.Core.Bool.{true}
 use mathlib.Core.List.{List, [], ◌∷◌}
 use native.Mathlib.Omega.{arith}
 use lib.ListN.{length, get_or, take}
-use lib.Seq.{take-suc, take_all}
+use lib.Seq.{take-suc}
 use borrow.Author.Tests.{eq-eqb}
 use Rattle.ident.specs.Number.{Key}
 use Rattle.regions.specs.declared.Row.{Row}
@@ -85,14 +85,6 @@ ordered_all d (a ∷ l) t o f = ordered_all d l (marking d a t) (ordered-marking
 pub record Back (now : ℕ) (st : State) (l : List Entry) (b : List ℕ) (j : ℕ) : Type 0 where
   pub sound : Sound (on_table (mark_all (until now) (take j l) st.table) st)
   pub writes : Writes b (on_table (mark_all (until now) (take j l) st.table) st)
-
-pub back_start : {now n : ℕ} {st : State} {l : List Entry} {b p : List ℕ} → Marks now st l b p n → Back now st l b n
-back_start {now} {n} {st} {l} {b} m =
-    let e : l ≡ take n l = sym (take_all n l (omega (arith, m.count))) in
-    record {
-      sound = subst (λ (x : List Entry). Sound (on_table (mark_all (until now) x st.table) st)) e m.sound;
-      writes = subst (λ (x : List Entry). Writes b (on_table (mark_all (until now) x st.table) st)) e m.writes;
-    }
 
 pub back_done : {now : ℕ} {st : State} {l : List Entry} {b : List ℕ} → Back now st l b 0 → Writes b st
 unfolding mark_all

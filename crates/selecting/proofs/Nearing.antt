@@ -19,9 +19,6 @@ use Rattle.selecting.specs.Near.{Behind}
 
 -- ---- where it begins
 
-pub behind_none : (ks : List ℕ) (n x : ℕ) → Behind ks n x 0
-behind_none ks n x = record { most = omega arith; below = λ s j h. absurd (omega arith) }
-
 -- the row before the guess is below
 pub behind-guess : (ks : List ℕ) (n x g : ℕ) → length ks ≡ n → 1 ≤ g → g ≤ n → get_or ks (g - 1) 0 < x → Behind ks n x g
 unfolding Sorted

@@ -129,9 +129,6 @@ phase_none now t f c = if_same f c
 abbrev pub Opened : Scan → Scan → Type 0
 Opened v w = w ≡ record { chosen = v.chosen; considered = v.considered; full = false; last = v.last }
 
-pub opened-roomy : (v : Scan) {w : Scan} → Opened v w → v.chosen ≤ max_request_checks → Roomy w
-opened-roomy v e h = let same = ap (λ (u : Scan). u.chosen) e in record { most = omega (arith, same); more = λ d. omega (arith, same) }
-
 pub phased : {b b' p p' : List ℕ} {now : ℕ} {ks : State → List Key} {v v₁ w : Scan} {n : ℕ} → Opened v v₁ → Scans b b' p p' now ks (λ st. []) v₁ w n → Phased b b' p p' now ks v w n
 phased {b} {b'} {p} {p'} {now} {ks} {v} {v₁} {w} {n} e x = record {
   kept = x.kept;

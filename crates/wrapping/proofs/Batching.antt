@@ -1,7 +1,7 @@
 -- announce_transactions on the bytes, item by item: what stands after the first i of the items offered.
-use Prim.Native.Nat.{ℕ, ◌+◌, ◌*◌, ◌≤◌, ◌<◌}
+use Prim.Native.Nat.{ℕ, ◌≤◌, ◌<◌}
 use mathlib.Core.Path.{◌≡◌, refl, sym, ap, subst, ◌∙◌}
-use mathlib.Core.Bool.{Bool, not, ◌&&◌}
+use mathlib.Core.Bool.{Bool}
 use mathlib.Core.List.{List, []}
 use native.Mathlib.Omega.{arith}
 use lib.Dec.{leb}
@@ -12,10 +12,10 @@ use Rattle.ident.specs.declared.ItemKind.{ItemKind}
 use Rattle.ident.specs.declared.ItemKind.TheVariants.{Transaction, WitnessTransaction, WTx, Other}
 use Rattle.ident.specs.Number.{Item}
 use Rattle.words.specs.Words.{words}
-use Rattle.machine.specs.Limits.{Limits, max_in_flight, source_delay}
+use Rattle.machine.specs.Limits.{Limits, max_in_flight}
 use Rattle.machine.specs.State.{State, Table, limits_of, on_table}
 use Rattle.machine.specs.Table.{one, owned_by}
-use Rattle.machine.specs.Wrapper.{Offer, is_w_tx, delay, offers_from, announce_transactions}
+use Rattle.machine.specs.Wrapper.{Offer, is_w_tx, offers_from, announce_transactions}
 use Rattle.machine.specs.Sound.{Sound}
 use Rattle.machine.specs.Typed.{Each, OfferTyped}
 use Rattle.machine.proofs.Fail.{Peer}
@@ -40,9 +40,6 @@ witness-kind Transaction = refl
 witness-kind WitnessTransaction = refl
 witness-kind WTx = refl
 witness-kind (Other n) = refl
-
-pub delay_is : (p v f : Bool) (i : Item) {w : Bool} {a b c : ℕ} → w ≡ is_w_tx i.kind → a ≡ one (not p) → b ≡ one (v && not w) → c ≡ one f → source_delay * (a + b + c) ≡ delay p v f i
-delay_is p v f i e q r s = rw (q, r, s, e)
 
 -- ---- the machine, one part more
 

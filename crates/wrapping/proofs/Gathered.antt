@@ -22,10 +22,10 @@ use Rattle.store.proofs.Counts.{held-rows}
 use Rattle.requests.proofs.Keeping.{sized_of}
 use Rattle.announcing.specs.Answers.{Answered}
 use Rattle.gathering.specs.declared.beside.Fare.{Fare}
-use Rattle.gathering.specs.declared.beside.Fare.TheVariants.{Nothing, Waits, Alone}
+use Rattle.gathering.specs.declared.beside.Fare.TheVariants.{Nothing, Waits}
 use Rattle.gathering.specs.Merges.{gathered}
 use Rattle.gathering.specs.Waits.{pushes}
-use Rattle.gathering.specs.Aside.{space, Empty, JoinedIn, SetAside, Gathers, ComeIn}
+use Rattle.gathering.specs.Aside.{space, Empty, JoinedIn, SetAside, ComeIn}
 use Rattle.wrapping.specs.declared.offering.Terms.{Terms}
 use Rattle.claims.specs.Changes.{Becomes}
 use Rattle.wrapping.specs.Batches.{between, announced, Offers, Collects}
@@ -89,18 +89,9 @@ module _ {b w : List ℕ} {a : Terms} {os : List Offer} {i j d : ℕ} (x : Colle
   pub collects_more : r ≡ Waits → Collects b w' a os i (j + 1) (d + 1)
   collects_more e = let z = one_aside.waits e in grown z.joined (omega (arith, z.spare))
 
-  -- one that is to be announced by itself
-  pub collects_same : r ≡ Alone → Collects b w' a os i j d
-  collects_same e = subst (λ (v : List ℕ). Collects b v a os i j d) (sym (y.alone e)) x
-
 -- ---- coming in
 
 module _ {b w : List ℕ} {a : Terms} {os : List Offer} {i j d : ℕ} (x : Collects b w a os i j d) where
-  pub collects_gathers : Kept b → Gathers b a.connection.number w d
-  collects_gathers k =
-      let z = x.collected k.state k.sound k.writes in
-      record { state = k.state; sound = k.sound; writes = k.writes; entries = z.entries; aside = z.aside; room = z.room }
-
   pub collects_in : {b₁ : List ℕ} → ComeIn b b₁ a.connection.number w d → Becomes b b₁ (announced a (between i j os))
   collects_in {b₁} h st s g =
       let z = x.collected st s g in

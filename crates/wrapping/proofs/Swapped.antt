@@ -1,14 +1,12 @@
 -- Offers announced where L is held, one after the other: those that come in wait, and as many victims go.
 use Prim.Native.Nat.{ℕ, ◌+◌, ◌≤◌, ◌<◌}
 use mathlib.Core.Path.{◌≡◌, refl, sym, ap, subst, ◌∙◌}
-use mathlib.Core.Bool.{true, ◌&&◌}
+use mathlib.Core.Bool.{true}
 use mathlib.Core.List.{List, [], ◌∷◌}
 use native.Mathlib.Omega.{arith}
-use lib.Dec.{ltb, eqb}
 use lib.ListN.{length}
-use borrow.Author.Tests.{ltb-true, eqb-true}
 use Rattle.ident.specs.Number.{key_of}
-use Rattle.machine.specs.Limits.{Limits, request_lifetime, word}
+use Rattle.machine.specs.Limits.{Limits}
 use Rattle.machine.specs.State.{Candidate, State, Table, limits_of, on_table}
 use Rattle.machine.specs.Table.{held}
 use Rattle.machine.specs.Announce.{victims, anywhere, announce}
@@ -16,14 +14,13 @@ use Rattle.machine.specs.Wrapper.{Offer, offered, offers_from}
 use Rattle.machine.specs.Sound.{Sound}
 use Rattle.machine.specs.Typed.{Each, OfferTyped}
 use Rattle.machine.proofs.Fail.{Peer}
-use Rattle.machine.proofs.Tests.{and_left, and_right}
 use Rattle.store.specs.Flat.{rows_of}
 use Rattle.store.specs.Image.{Writes}
 use Rattle.store.specs.Shown.{Kept}
 use Rattle.announcing.specs.Falls.{fallen, cuts, VictimsIn, Evictable}
 use Rattle.announcing.proofs.Nobody.{nobody-listed, nobody-keyed}
 use Rattle.gathering.specs.declared.beside.Fare.{Fare}
-use Rattle.gathering.specs.declared.beside.Fare.TheVariants.{Nothing, Waits, Alone}
+use Rattle.gathering.specs.declared.beside.Fare.TheVariants.{Nothing, Waits}
 use Rattle.gathering.specs.Merges.{gathered}
 use Rattle.gathering.specs.Waits.{pushes}
 use Rattle.gathering.specs.Aside.{space, Empty, Gathers, ComeIn}
@@ -103,10 +100,6 @@ module _ {b w v : List ℕ} {m : ℕ} {a : Terms} {os : List Offer} {i j d : ℕ
     pub swaps_more : r ≡ Waits → Swaps b w' v m a os i (j + 1) (d + 1)
     swaps_more e = let z = one_deferred.waits e in grown z.owed (omega (arith, z.spare.0)) (omega (arith, z.spare.1))
 
-    -- one that is to be announced by itself
-    pub swaps_same : r ≡ Alone → Swaps b w' v m a os i j d
-    swaps_same e = subst (λ (p : List ℕ). Swaps b p v m a os i j d) (sym (y.alone e)) x
-
   -- ---- the victims go, and those that wait come in
 
   module _ {b₁ : List ℕ} (gone : Gone b b₁ v m d) where
@@ -165,13 +158,6 @@ went-nobody {b} a os i {m} {k} h n z p l e = record {
       let q = announced-nobody a (between i k os) (limits_of st) st.table p (omega (arith, h st s g)) (nobody-listed st s (n st s g ∙ z)) in
       subst (λ (t : Table). Writes b (on_table t st)) (sym q) g;
 }
-
--- all who could be evicted have gone
-pub went_all : {b b₁ : List ℕ} {m most : ℕ} {a : Terms} {os : List Offer} {i j d k : ℕ} → Settled b b₁ m a os i j d → (m < most → Evictable b m) → (eqb d m && ltb m most) ≡ true
-    → a.preferred ≡ true → k ≡ length os → Went b b₁ a os i k
-went_all {b} {b₁} {m} {most} {a} {os} {i} {j} {d} {k} x n h p e =
-    subst (λ (l : ℕ). Went b b₁ a os i l) (sym e)
-    (x.others (n (ltb-true m most (and_right (eqb d m) (ltb m most) h))) (eqb-true d m (and_left (eqb d m) (ltb m most) h)) p)
 
 module _ {b b₁ : List ℕ} {a : Terms} {os : List Offer} {i j : ℕ} (x : Went b b₁ a os i j) where
   module _ (peer : Peer a.connection.number) (typed : Each OfferTyped os) where
