@@ -1,6 +1,6 @@
 -- The number that a line adds, and counters with one number more.
 use Prim.Native.Nat.{ℕ, suc, ◌≤◌}
-use mathlib.Core.Path.{◌≡◌, sym, ap, ◌∙◌}
+use mathlib.Core.Path.{◌≡◌}
 use mathlib.Core.List.{List}
 use mathlib.Core.Option.{Option, none, some}
 use mathlib.Core.Logic.{inl, inr}
@@ -10,28 +10,9 @@ use borrow.Author.Tests.{ltb-true, ltb-false}
 use Rattle.machine.proofs.Tests.{test}
 use Rattle.std.specs.Prelude as answer
 use Rattle.lines.specs.Values.{number_in}
-use Rattle.heavy.specs.Counters as counters
 use Rattle.heavy.specs.Counters.{index_of, is_in, counts_with, counted_with, sum}
 use Rattle.heavy.proofs.Held.{sum-raised, sum-taken, sum-lowered}
-use Rattle.listed_counts.specs.Passes.{names_added, counts_added, counted_added, Notes, Counts}
-
--- ---- one number more, or none
-
-module _ {n : answer.Option ℕ} (ns ks : List ℕ) where
-  pub notes_none : n ≡ answer.None → Notes n ns ks ns ks
-  notes_none e = record { names = ap (λ (m : answer.Option ℕ). names_added (number_in m) ns ks) (sym e); counts = ap (λ (m : answer.Option ℕ). counts_added (number_in m) ns ks) (sym e) }
-
-  pub notes_some : {x : ℕ} {ns' ks' : List ℕ} → n ≡ answer.Some x → counters.Notes ns ks ns' ks' x → Notes n ns ks ns' ks'
-  notes_some e h = record {
-    names = h.names ∙ ap (λ (m : answer.Option ℕ). names_added (number_in m) ns ks) (sym e);
-    counts = h.counts ∙ ap (λ (m : answer.Option ℕ). counts_added (number_in m) ns ks) (sym e);
-  }
-
-  pub counts_none : n ≡ answer.None → Counts n ns ks ks
-  counts_none e = record { counts = ap (λ (m : answer.Option ℕ). counted_added (number_in m) ns ks) (sym e) }
-
-  pub counts_some : {x : ℕ} {ks' : List ℕ} → n ≡ answer.Some x → ks' ≡ counted_with x ns ks → Counts n ns ks ks'
-  counts_some e h = record { counts = h ∙ ap (λ (m : answer.Option ℕ). counted_added (number_in m) ns ks) (sym e) }
+use Rattle.listed_counts.specs.Passes.{counts_added, counted_added, Notes, Counts}
 
 -- ---- the counts in all grow by one at most
 

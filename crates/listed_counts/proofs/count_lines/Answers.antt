@@ -1,22 +1,9 @@
 -- `listed_counts::count_lines` meets its contract. The loop's invariant: what is left of the lines, from the counts as they are, comes to the same as all of them.
-use Prim.Native.Nat.{◌≤◌}
-use mathlib.Core.Path.{refl, sym, ◌∙◌}
+use mathlib.Core.Path.{refl, ◌∙◌}
 use native.Mathlib.Omega.{arith}
-use lib.ListN.{length}
 use Rattle.listed_counts.proofs.Numbers.{sum_more}
-use Rattle.listed_counts.proofs.Lines.{count-begin, count_on, count_end}
+use Rattle.listed_counts.proofs.Lines.{count_on, count_end}
 use Rattle.listed_counts.proofs.count_lines.Goals as goal
-
-pub loop-line-init : goal.loop-line-init
-loop-line-init g c = (refl, refl, omega arith, count-begin c.args.counters.now.names.now)
-
-pub count_number-requires : goal.count_number-requires
-count_number-requires g c =
-    let n : c.loop-line.lines.at ≤ length c.args.lines.text.now = rw (← c.loop-line.invariant.0) c.loop-line.lines.within in
-    omega (arith, c.loop-line.invariant.2, c.ranges.lines)
-
-pub loop-line-smaller : goal.loop-line-smaller
-loop-line-smaller g c = let l = c.in-Some.ensures.line in rw c.in-Some.ensures.same (omega (arith, l.on, l.inside))
 
 pub loop-line-preserved : goal.loop-line-preserved
 loop-line-preserved g c =
