@@ -38,27 +38,3 @@ returns-in-BeginPackageResolution c =
     ∙ ap (λ (h : ℕ). BeginPackageResolution v.connection (quad_number v.hash) h hs v.clock)
     c.from-combined.ensures)
     (carried _ c.begin_package_resolution.ensures refl (c.number-in-BeginPackageResolution.ensures.text _))
-
-pub returns-in-AnnounceParents : goal.returns-in-AnnounceParents
-returns-in-AnnounceParents c =
-    let v = c.args.v in
-    let hs = hashes_in c.args.hashes.now in
-    hashes-did (values_of v) hs c.in-AnnounceParents.is
-    (refl)
-    c.announce_parents.ensures
-
-pub returns-in-FailedPackageClaims : goal.returns-in-FailedPackageClaims
-returns-in-FailedPackageClaims c =
-    let v = c.args.v in
-    let hs = hashes_in c.args.hashes.now in
-    hashes-did (values_of v) hs c.in-FailedPackageClaims.is
-    (refl)
-    c.failed_package_claims.ensures
-
-pub returns-in-OwnersOf : goal.returns-in-OwnersOf
-returns-in-OwnersOf c =
-    let v = c.args.v in
-    let hs = hashes_in c.args.hashes.now in
-    hashes-did (values_of v) hs c.in-OwnersOf.is
-    (refl)
-    c.owners_of.ensures
