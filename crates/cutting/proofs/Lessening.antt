@@ -1,26 +1,19 @@
 -- The tally of the rows that are left: some rows less of one connection.
 use Prim.Native.Nat.{ℕ, zero, suc, ◌+◌, ◌-◌, ◌≤◌, ◌<◌}
-use mathlib.Core.Path.{◌≡◌, refl, sym, ap, subst, ◌∙◌}
+use mathlib.Core.Path.{◌≡◌, refl, sym, ap, ◌∙◌}
 use mathlib.Core.Logic.{inl, inr}
 use mathlib.Core.Bool.{Bool, false}
-use mathlib.Core.List.{List, [], ◌∷◌, ◌++◌}
-use native.Mathlib.Nat.{le_refl}
+use mathlib.Core.List.{List, [], ◌∷◌}
 use native.Mathlib.Omega.{arith}
 use lib.Dec.{ltb, eqb}
-use lib.ListN.{length, take, drop, get_or, set, length-map}
-use lib.Seq.{set_split}
+use lib.ListN.{length}
 use borrow.Author.Tests.{ltb-true, ltb-false, lt-ltb, le-ltb, eq-eqb, ne_eqb}
 use Rattle.regions.specs.declared.Row.{Row}
 use Rattle.regions.specs.declared.Conn.{Conn}
-use Rattle.regions.specs.Order.{Sorted, Bound}
-use Rattle.regions.specs.Regions.{remove_at}
 use Rattle.machine.proofs.Tests.{test, order}
 use Rattle.store.specs.Flat.{own_bit, bump, tally}
 use Rattle.store.specs.Counting.{adjusted}
-use Rattle.store.specs.Image.{Shows}
-use Rattle.store.specs.Shown.{conn_names, with_conns}
 use Rattle.store.proofs.Tally.{bump-nil, bump-lt, bump-eq, bump_gt, bump-swap, bump_tallied, Tallied, tally_tallied}
-use Rattle.store.proofs.Missing.{name_at}
 use Rattle.package_stages.specs.Dead.{filter}
 use Rattle.cutting.specs.Cuts.{less, lessen}
 

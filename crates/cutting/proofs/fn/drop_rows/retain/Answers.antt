@@ -1,5 +1,5 @@
 -- The test of `cutting::drop_rows` tells of a row whether it stays.
-use mathlib.Core.Path.{◌≡◌, ap, ◌∙◌}
+use mathlib.Core.Path.{ap, ◌∙◌}
 use mathlib.Core.Bool.{not}
 use mathlib.Core.List.{[], ◌∷◌}
 use lib.Dec.{lit<}
