@@ -1,4 +1,3 @@
-use native.Mathlib.Omega.{arith}
 use mathlib.Core.Path.{◌≡◌, refl, sym, ap, ◌∙◌}
 use lib.ListN.{length}
 use Rattle.ident.specs.Number.{wtxid}
@@ -13,9 +12,6 @@ use Rattle.requests.proofs.Keeping.{kept_shown}
 use Rattle.package_stages.proofs.Seeking.{its-place}
 use Rattle.package_stages.proofs.Placing.{parent-added}
 use Rattle.package_stages.proofs.add_parent.Goals as goal
-
-pub parents-n-requires : goal.parents-n-requires
-parents-n-requires c = (c.requires, c.in-Ok.ensures.inside refl)
 
 pub push_parent-requires : goal.push_parent-requires
 push_parent-requires c = (
@@ -39,15 +35,6 @@ returns-then-n-lt-MAX_PARENTS c = λ st s w o.
     (record { bound = p.bound; held_is = sym e }) in
     parent-added st s h z.small p.bound n e d
     (rw x at (c.push_parent.ensures (flat_of st) d (ap (λ (y : Place). length y.parents) there ∙ sym count) w))
-
-pub returns-else-n-lt-MAX_PARENTS : goal.returns-else-n-lt-MAX_PARENTS
-returns-else-n-lt-MAX_PARENTS c = λ st s w o.
-    let h = hash_num c.args.h in
-    let z = c.in-Ok.ensures in
-    let p = z.is st s w in
-    let e = sym p.held_is in
-    let count = c.parents-n.ensures.1 h z.small st s w (record { bound = p.bound; held_is = sym e }) in
-    absurd (omega (arith, o.few, c.if-n-lt-MAX_PARENTS.false))
 
 pub returns-in_default : goal.returns-in_default
 returns-in_default c = λ st s w o.

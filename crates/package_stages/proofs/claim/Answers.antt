@@ -20,9 +20,6 @@ use Rattle.package_stages.proofs.Placing.{claimed, flag_held, flag-stage}
 use Rattle.package_stages.proofs.Filling.{no-wtxids, listed-shown, listed-inside, turned_shown, turned_inside, set_thrice}
 use Rattle.package_stages.proofs.claim.Goals as goal
 
-pub seek-requires : goal.seek-requires
-seek-requires c = c.requires.0
-
 pub place_at-x-requires : goal.place_at-x-requires
 place_at-x-requires c = (kept_shown c.requires.0, c.in-Ok.ensures.inside refl)
 

@@ -1,22 +1,16 @@
 use native.Mathlib.Omega.{arith}
-use native.Mathlib.Nat.{le_refl}
-use Prim.Native.Nat.{ℕ, ◌<◌}
-use mathlib.Core.Path.{◌≡◌, ap, subst, ◌∙◌}
-use lib.ListN.{length, take}
-use lib.Seq.{take_all}
+use Prim.Native.Nat.{◌<◌}
+use mathlib.Core.Path.{ap, ◌∙◌}
+use lib.ListN.{length}
 use Rattle.lent_lists.specs.Lists.{hashes_in}
 use Rattle.regions.specs.Rows.{quad_number}
 use Rattle.regions.proofs.Order.{number_quad}
 use Rattle.places.specs.Places.{blank}
-use Rattle.package_stages.specs.Records.{ListedIn}
 use Rattle.package_stages.proofs.Filling.{filled_none, listed-shown, listed-inside, filled_more}
 use Rattle.package_stages.proofs.flat.push_wtxids.Goals as goal
 
 pub loop-j-init : goal.loop-j-init
 loop-j-init c = (filled_none c.args.i (hashes_in c.args.list.now), c.hashes-n.ensures)
-
-pub hash_in-h-requires : goal.hash_in-h-requires
-hash_in-h-requires c = omega (arith, c.loop-j.invariant.1, c.loop-j-test.true)
 
 pub push_wtxid-requires : goal.push_wtxid-requires
 push_wtxid-requires c = (
@@ -36,13 +30,3 @@ loop-j-preserved c =
           c.push_wtxid.ensures,
       inv.1,
     )
-
-pub shape_of-s : goal.shape_of-s
-shape_of-s c = c.loop-j.invariant.0.long
-
-pub returns : goal.returns
-returns c =
-    let hs = hashes_in c.args.list.now in
-    let e : c.loop-j.j ≡ length hs = omega (arith, c.loop-j.invariant.0.most, c.loop-j.invariant.1, c.loop-j-test.false) in
-    subst (ListedIn c.args.s.now c.loop-j.s c.args.i)
-    (ap (λ (j : ℕ). take j hs) e ∙ take_all (length hs) hs (le_refl (length hs))) c.loop-j.invariant.0.turns

@@ -1,6 +1,6 @@
 -- The test of `package_stages::dead::drop_dead` tells of a place whether it is live.
 use Prim.Native.Nat.{ℕ}
-use mathlib.Core.Path.{◌≡◌, ap}
+use mathlib.Core.Path.{ap}
 use mathlib.Core.List.{[], ◌∷◌}
 use lib.Dec.{ltb, lit<}
 use Rattle.words.specs.Words.{words}
