@@ -116,7 +116,7 @@ pub fn victim_anywhere(s: &[u8]) -> Option<regions::Row>
     greatest_in(s, all, None)
 }
 
-// How many candidates of the table can be evicted, in one pass.
+// How many candidates of the table can be evicted, in one pass by the index, as the head of `regions` says of scans.
 #[tactic(auto, using(crate::proofs::Lent::kept_long, requests::proofs::Keeping::kept_shown))]
 pub fn evictable(s: &[u8]) -> u64
     requires { Kept s.now }

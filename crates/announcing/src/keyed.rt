@@ -90,7 +90,7 @@ fn decide(s: &[u8], k: ident::Key, c: requests::Candidate) -> Verdict
     Verdict::Enters
 }
 
-// Whether announce_at would let c in.
+// Whether announce_at would let c in. (No derived `==`: a row has none, and it is one variant alone that is asked for.)
 pub fn would_announce(s: &[u8], k: ident::Key, c: requests::Candidate) -> bool
     requires { Kept s.now }
     ensures { (st : State) → Sound st → Writes s.now st → result ≡ (machine.announce_at (limits_of st) (key_num k) (candidate_of c) st.table).reply }

@@ -5,15 +5,16 @@ ghost use Rattle.words.specs.Words.{words};
 ghost use Rattle.regions.specs.Rows.{row_size, key_number};
 ghost use Rattle.gathering.specs.Aside.{space, Empty, KeyIn, PutIn, WaitsAt};
 
-use regions::Row;
+use crate::beside::SPACE;
 use regions::listed::Records;
+use regions::{ROW, Row};
 use std::ops::Bound;
 
 // Words of the region.
-const WORDS: usize = 4_608;
+const WORDS: usize = SPACE * ROW;
 
 // The same in bytes.
-pub const ROOM: usize = 36_864;
+pub const ROOM: usize = WORDS * 8;
 
 // Makes the region empty.
 pub fn clear(new: &mut [u8])
