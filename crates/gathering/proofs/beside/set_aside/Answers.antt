@@ -4,6 +4,3 @@ use Rattle.gathering.proofs.beside.set_aside.Goals as goal
 
 pub returns-in_default : goal.returns-in_default
 returns-in_default c = set-keyed c.in_default.ensures set_none
-
-pub returns : goal.returns
-returns c = set-keyed c.in-Some.ensures c.set_aside_at.ensures

@@ -4,6 +4,3 @@ use Rattle.gathering.proofs.deferred.defer.Goals as goal
 
 pub returns-in_default : goal.returns-in_default
 returns-in_default c = deferred_keyed c.in_default.ensures deferred_none
-
-pub returns : goal.returns
-returns c = deferred_keyed c.in-Some.ensures c.defer_at.ensures

@@ -4,6 +4,3 @@ use Rattle.gathering.proofs.instead.exchange.Goals as goal
 
 pub returns-in_default : goal.returns-in_default
 returns-in_default c = exchanged_keyed c.in_default.ensures exchanged_none
-
-pub returns : goal.returns
-returns c = exchanged_keyed c.in-Some.ensures c.exchange_at.ensures
