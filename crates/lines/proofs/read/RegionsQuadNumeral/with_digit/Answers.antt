@@ -1,10 +1,7 @@
 -- `lines::read::with_digit` of hashes meets its contract.
 use native.Mathlib.Omega.{arith}
-use Rattle.lines.proofs.Hashes.{no_digit, hash_full, has_room}
+use Rattle.lines.proofs.Hashes.{hash_full, has_room}
 use Rattle.lines.proofs.read.RegionsQuadNumeral.with_digit.Goals as goal
-
-pub returns-then-digit-ge16 : goal.returns-then-digit-ge16
-returns-then-digit-ge16 c = no_digit _ _ _ c.if-digit-ge16.true
 
 pub returns-then-self-ge-HIGH_DIGIT : goal.returns-then-self-ge-HIGH_DIGIT
 returns-then-self-ge-HIGH_DIGIT c = hash_full c.args.self (omega arith) c.args.digit c.if-digit-ge16.false c.if-self-ge-HIGH_DIGIT.true
