@@ -60,9 +60,6 @@ pub has_room : (q : Quad) → Small q → (d : ℕ) → d < 16 → q.w3 < 2 ^ 60
     ≡ with_digit 16 top (quad_number q) d
 has_room q s d h l = ap some (with-digit q d) ∙ sym (room-is q s d h l)
 
-pub no_digit : (m n d : ℕ) → 16 ≤ d → none ≡ with_digit 16 m n d
-no_digit m n d h = rw (le-ltb d 16 h)
-
 -- ---- a hash of no digit
 
 pub quad_low : (d : ℕ) → quad_number (record { w0 = d; w1 = 0; w2 = 0; w3 = 0 }) ≡ d

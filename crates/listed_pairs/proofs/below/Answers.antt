@@ -1,10 +1,7 @@
 -- `listed_pairs::below` meets its contract. The loop's invariant: the requests that were passed come to nothing.
 use mathlib.Core.Path.{refl, ◌∙◌}
-use Rattle.listed_pairs.proofs.Skipping.{below_none, below_on}
+use Rattle.listed_pairs.proofs.Skipping.{below_on}
 use Rattle.listed_pairs.proofs.below.Goals as goal
-
-pub loop-r-init : goal.loop-r-init
-loop-r-init c = (refl, refl, below_none _ _ _)
 
 pub loop-r-preserved : goal.loop-r-preserved
 loop-r-preserved c =

@@ -1,10 +1,7 @@
 -- `listed_pairs::first_wtxid` meets its contract. The loop's invariant: the requests before these lines are Txid requests.
 use mathlib.Core.Path.{refl, ◌∙◌}
-use Rattle.listed_pairs.proofs.Seeking.{search-begin, search_on, search_found, search_end}
+use Rattle.listed_pairs.proofs.Seeking.{search_on, search_found, search_end}
 use Rattle.listed_pairs.proofs.first_wtxid.Goals as goal
-
-pub loop-line-init : goal.loop-line-init
-loop-line-init c = (refl, refl, search-begin _ _)
 
 pub returns-then-wtxid_line-clause-first : goal.returns-then-wtxid_line-clause-first
 returns-then-wtxid_line-clause-first c =
