@@ -9,17 +9,7 @@ returns-in_err-named-clause-test c =
     rw (hands-on _ c.from_residual.ensures.1)
     (first-refused _ _ c.in_err-named.ensures.test ∙ sizes-named _ _ c.args.parents c.args.length c.args.needs)
 
-pub returns-in_err-of_parents-clause-test : goal.returns-in_err-of_parents-clause-test
-returns-in_err-of_parents-clause-test c =
-    rw (hands-on _ c.from_residual-in_err-of_parents.ensures.1)
-    (first-passed c.in_ok-named.ensures.test (first-refused _ _ c.in_err-of_parents.ensures) ∙ sizes-named _ _ _ c.args.length c.args.needs)
-
 pub returns-in_err-of_buffer-clause-test : goal.returns-in_err-of_buffer-clause-test
 returns-in_err-of_buffer-clause-test c =
     rw (hands-on _ c.from_residual-in_err-of_buffer.ensures.1)
     (first-passed c.in_ok-named.ensures.test (first-passed c.in_ok-of_parents.ensures c.in_err-of_buffer.ensures) ∙ sizes-named _ _ _ _ _)
-
-pub returns-clause-test : goal.returns-clause-test
-returns-clause-test c =
-    first-passed c.in_ok-named.ensures.test (first-passed c.in_ok-of_parents.ensures c.in_ok-of_buffer.ensures)
-    ∙ sizes-named _ _ _ _ _

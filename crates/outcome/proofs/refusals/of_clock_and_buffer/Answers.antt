@@ -13,6 +13,3 @@ pub returns-in_err-of_buffer-clause-test : goal.returns-in_err-of_buffer-clause-
 returns-in_err-of_buffer-clause-test c =
     rw (hands-on _ c.from_residual-in_err-of_buffer.ensures.1)
     (first-passed c.in_ok-clock.ensures.test c.in_err-of_buffer.ensures ∙ clock-sized _ _ _)
-
-pub returns-clause-test : goal.returns-clause-test
-returns-clause-test c = first-passed c.in_ok-clock.ensures.test c.in_ok-of_buffer.ensures ∙ clock-sized _ _ _

@@ -13,6 +13,3 @@ pub returns-in_err-clock-clause-test : goal.returns-in_err-clock-clause-test
 returns-in_err-clock-clause-test c =
     rw (hands-on _ c.from_residual-in_err-clock.ensures.1)
     (first-passed c.in_ok-connection.ensures.test c.in_err-clock.ensures.test ∙ both_named _ _)
-
-pub returns-clause-test : goal.returns-clause-test
-returns-clause-test c = first-passed c.in_ok-connection.ensures.test c.in_ok-clock.ensures.test ∙ both_named _ _
