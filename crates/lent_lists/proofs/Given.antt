@@ -1,12 +1,14 @@
 -- Hashes given to a call: how many, each by its index, their range, and whether one occurred before.
 use Prim.Native.Nat.{ℕ, zero, suc, ◌+◌, ◌*◌, ◌/◌, ◌≤◌, ◌<◌}
-use mathlib.Core.Path.{◌≡◌}
-use mathlib.Core.Bool.{true, false}
+use mathlib.Core.Path.{◌≡◌, refl, sym, ap, ◌∙◌}
+use mathlib.Core.Bool.{Bool, true, ◌||◌}
 use mathlib.Core.List.{List, [], ◌∷◌}
+use native.Mathlib.Numerals.{add-one}
 use native.Mathlib.Omega.{arith}
 use lib.Dec.{eqb}
 use lib.ListN.{length, take, drop, get_or, length-drop}
-use lib.Seq.{length-take-le, get_or-take, get_or-drop}
+use lib.Seq.{drop-cons, length-take-le, get_or-take, get_or-drop}
+use Rattle.std.specs.List.{list_any, range_with_len}
 use Rattle.ident.specs.Number.{top}
 use Rattle.ident.specs.Words.{hash_bytes}
 use Rattle.words.specs.Words.{number, recs}
@@ -14,7 +16,7 @@ use Rattle.words.proofs.Digits.{number_below}
 use Rattle.words.proofs.Records.{length-recs, recs_at}
 use Rattle.machine.specs.Claim.{elem}
 use Rattle.machine.specs.Sound.{Hashes}
-use Rattle.machine.proofs.Tests.{or_left, or_right, or_true}
+use Rattle.machine.proofs.Tests.{or_true}
 use Rattle.lent_lists.specs.Lists.{hashes_in}
 
 pub length-hashes : (b : List ℕ) → length (hashes_in b) ≡ length b / hash_bytes
@@ -47,8 +49,16 @@ elem-met x (g ∷ hs) zero j h l e = absurd (omega arith)
 elem-met x (g ∷ hs) (suc i) zero h l e = rw e
 elem-met x (g ∷ hs) (suc i) (suc j) h l e = or_true (eqb g x) (elem x (take i hs)) (elem-met x hs i j (omega arith) (omega arith) e)
 
-pub elem-passed : (x : ℕ) (hs : List ℕ) (j : ℕ) → j < length hs → elem x (take j hs) ≡ false → eqb (get_or hs j 0) x ≡ false → elem x (take (suc j) hs) ≡ false
+-- the j-th is x
+abbrev pub is_at : ℕ → List ℕ → ℕ → Bool
+is_at x hs j = eqb (get_or hs j 0) x
+
+elem_from : (x : ℕ) (hs : List ℕ) (k i : ℕ) → i + k ≤ length hs → list_any (is_at x hs) (range_with_len i k) ≡ elem x (take k (drop i hs))
 unfolding elem
-elem-passed x [] j l n e = absurd (omega arith)
-elem-passed x (g ∷ hs) zero l n e = rw e
-elem-passed x (g ∷ hs) (suc j) l n e = rw (or_left (eqb g x) (elem x (take j hs)) n) (elem-passed x hs j (omega arith) (or_right (eqb g x) (elem x (take j hs)) n) e)
+elem_from x hs zero i l = refl
+elem_from x hs (suc k) i l =
+    ap (λ (b : Bool). eqb (get_or hs i 0) x || b) (elem_from x hs k (i + 1) (omega arith))
+    ∙ sym (ap (λ (gs : List ℕ). elem x (take (suc k) gs)) (drop-cons hs i 0 (omega arith)) ∙ ap (λ (j : ℕ). eqb (get_or hs i 0) x || elem x (take k (drop j hs))) (sym (add-one i)))
+
+pub elem_by : (x : ℕ) (hs : List ℕ) (k : ℕ) → k ≤ length hs → list_any (is_at x hs) (range_with_len 0 k) ≡ elem x (take k hs)
+elem_by x hs k l = elem_from x hs k 0 (omega arith)

@@ -40,13 +40,7 @@ pub fn occurs_before(s: &[u8], i: usize) -> bool
     ensures { result ≡ elem (get_or (hashes_in s.now) i 0) (take i (hashes_in s.now)) }
 {
     let h = hash_in(s, i);
-    for j in 0..i {
-        let g = hash_in(s, j);
-        if same_hash(g, h) {
-            return true;
-        }
-    }
-    false
+    (0..i).any(|j| same_hash(hash_in(s, j), h))
 }
 
 // ---- items in, and their priorities

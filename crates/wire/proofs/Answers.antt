@@ -1,15 +1,18 @@
 -- What the two calls answer, by the tests that they make.
-use Prim.Native.Nat.{ℕ, suc, ◌+◌, ◌*◌, ◌≤◌, ◌<◌}
-use mathlib.Core.Path.{◌≡◌, sym, ap, ◌∙◌}
+use Prim.Native.Nat.{ℕ, zero, suc, ◌+◌, ◌*◌, ◌≤◌, ◌<◌}
+use mathlib.Core.Path.{◌≡◌, refl, sym, ap, ◌∙◌}
 use mathlib.Core.Logic.{inl, inr}
 use mathlib.Core.Bool.{Bool, true, false, ◌&&◌}
 use mathlib.Core.List.{List}
 use mathlib.Core.Option.{none}
+use native.Mathlib.Numerals.{add-one}
 use native.Mathlib.Omega.{arith}
 use lib.Dec.{leb}
 use lib.ListN.{length, drop, get_or, length-append, length-drop, drop_of_length-le}
 use lib.Seq.{drop-cons}
 use borrow.Author.Tests.{lt-ltb, le-ltb, le-leb, lt-leb}
+use Rattle.std.specs.List.{list_all, range_with_len}
+use Rattle.ident.specs.declared.ItemKind.TheVariants.{Other}
 use Rattle.ident.specs.Number.{Item, is_plain}
 use Rattle.words.specs.Words.{recs, splice}
 use Rattle.words.proofs.Records.{length-recs}
@@ -25,21 +28,22 @@ use Rattle.wire.proofs.Records.{length_wires, answer_back, read_fits, read_plain
 
 -- ---- other items of the three types, one item at a time
 
-plain_step : (l : List Item) (i : ℕ) {x : Item} → i < length l → ((d : Item) → x ≡ get_or l i d) → all_plain (drop i l) ≡ (is_plain x.kind && all_plain (drop (suc i) l))
+-- there is an item at every index that is looked at
+no_item : Item
+no_item = record { kind = Other 0; hash = 0 }
+
+-- the i-th is plain
+abbrev pub plain_at : List Item → ℕ → Bool
+plain_at l i = is_plain (get_or l i no_item).kind
+
+plain_from : (l : List Item) (n i : ℕ) → i + n ≡ length l → list_all (plain_at l) (range_with_len i n) ≡ all_plain (drop i l)
 unfolding all_plain
-plain_step l i {x} h e = ap all_plain (drop-cons l i x h) ∙ ap (λ (y : Item). is_plain y.kind && all_plain (drop (suc i) l)) (sym (e x))
+plain_from l zero i h = let e : length l ≤ i = omega arith in rw (drop_of_length-le l e) refl
+plain_from l (suc n) i h =
+    ap (λ (b : Bool). plain_at l i && b) (plain_from l n (i + 1) (omega arith)) ∙ sym (ap all_plain (drop-cons l i no_item (omega arith)) ∙ ap (λ (j : ℕ). plain_at l i && all_plain (drop j l)) (sym (add-one i)))
 
-pub plain_broken : (l : List Item) (i : ℕ) {x : Item} {r : Bool} → i < length l → all_plain l ≡ all_plain (drop i l) → ((d : Item) → x ≡ get_or l i d) → r ≡ is_plain x.kind → r ≡ false
-    → false ≡ all_plain l
-plain_broken l i {x} h v e p q = sym (v ∙ plain_step l i h e ∙ ap (λ (t : Bool). t && all_plain (drop (suc i) l)) (sym p ∙ q))
-
-pub plain-passed : (l : List Item) (i : ℕ) {x : Item} {r : Bool} → i < length l → all_plain l ≡ all_plain (drop i l) → ((d : Item) → x ≡ get_or l i d) → r ≡ is_plain x.kind → r ≡ true
-    → all_plain l ≡ all_plain (drop (suc i) l)
-plain-passed l i {x} h v e p q = v ∙ plain_step l i h e ∙ ap (λ (t : Bool). t && all_plain (drop (suc i) l)) (sym p ∙ q)
-
-pub plain_all : (l : List Item) (i : ℕ) → length l ≤ i → all_plain l ≡ all_plain (drop i l) → true ≡ all_plain l
-unfolding all_plain
-plain_all l i h v = sym (v ∙ ap all_plain (drop_of_length-le l {i = i} h))
+pub plain_by : (l : List Item) (n : ℕ) → n ≡ length l → list_all (plain_at l) (range_with_len 0 n) ≡ all_plain l
+plain_by l n h = plain_from l n 0 (omega arith)
 
 -- ---- reading
 

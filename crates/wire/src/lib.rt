@@ -136,14 +136,7 @@ pub fn read_payload(p: &[u8], answer: &mut [u8]) -> Result<u64, Refusal>
 fn all_plain(items: &[u8]) -> bool
     ensures { result ≡ all_plain (items_in items.now) }
 {
-    let n = lent_lists::items(items);
-    for i in 0..n {
-        let item = lent_lists::item_at(items, i);
-        if !ident::is_plain(item.kind) {
-            return false;
-        }
-    }
-    true
+    (0..lent_lists::items(items)).all(|i| ident::is_plain(lent_lists::item_at(items, i).kind))
 }
 
 // Stores the type t from index a on. (Byte by byte, as `words::put`.)

@@ -1,30 +1,20 @@
--- `lent_lists::occurs_before` meets its contract.
-use Prim.Native.Nat.{ℕ}
-use mathlib.Core.Path.{◌≡◌, refl, sym}
-use mathlib.Core.Bool.{Bool}
-use native.Mathlib.Numerals.{add-one}
+-- `lent_lists::occurs_before` meets its contract: a scan of the hashes before it.
+use Prim.Native.Nat.{◌-◌}
+use mathlib.Core.Path.{◌≡◌, refl, ◌∙◌}
 use native.Mathlib.Omega.{arith}
-use lib.Dec.{eqb}
-use Rattle.machine.specs.Claim.{elem}
-use Rattle.lent_lists.proofs.Given.{elem-met, elem-passed}
+use lib.ListN.{get_or}
+use Rattle.std.proofs.Common.{rules, tests}
+use Rattle.std.proofs.lemmas.Iterator.{YieldsList-from_range}
+use Rattle.std.proofs.lemmas.Iterator.Search.{any_from_yields_List}
+use Rattle.lent_lists.specs.Lists.{hashes_in}
+use Rattle.lent_lists.proofs.Given.{is_at, elem_by}
 use Rattle.lent_lists.proofs.occurs_before.Goals as goal
 
--- the answer on two hashes, as one on their numbers
-same-as : {r b : Bool} {g h x y : ℕ} → r ≡ eqb g h → g ≡ x → h ≡ y → r ≡ b → eqb x y ≡ b
-same-as e p q t = cc
-
-pub loop-j-init : goal.loop-j-init
-unfolding elem
-loop-j-init c = (omega arith, refl)
-
-pub returns-then-same_hash : goal.returns-then-same_hash
-returns-then-same_hash c =
-    sym (elem-met _ _ c.args.i c.loop-j.j (omega arith) (omega (arith, c.requires))
-    (same-as c.same_hash.ensures c.hash_in-g.ensures c.hash_in-h.ensures c.if-same_hash.true))
-
-pub loop-j-preserved : goal.loop-j-preserved
-loop-j-preserved c = (
-  omega arith,
-  rw add-one (elem-passed _ _ c.loop-j.j (omega (arith, c.requires)) c.loop-j.invariant.1
-      (same-as c.same_hash.ensures c.hash_in-g.ensures c.hash_in-h.ensures c.if-same_hash.false)),
-)
+pub returns : goal.returns
+returns c =
+    let hs = hashes_in c.args.s.now in
+    let i = c.args.i in
+    let x = get_or hs i 0 in
+    let whole : i - 0 ≡ i = omega arith in
+    any_from_yields_List (is_at x hs) _ _ _ c.any.ensures.ran (YieldsList-from_range 0 i i refl whole) (λ j b q k. search (rules, tests))
+    ∙ elem_by x hs i (omega (arith, c.requires))

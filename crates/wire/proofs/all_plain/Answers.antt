@@ -1,22 +1,18 @@
--- `wire::all_plain` meets its contract.
-use native.Mathlib.Numerals.{add-one}
+-- `wire::all_plain` meets its contract: a scan of the items.
+use Prim.Native.Nat.{◌-◌}
+use mathlib.Core.Path.{◌≡◌, refl, ◌∙◌}
 use native.Mathlib.Omega.{arith}
+use Rattle.std.proofs.Common.{rules, tests}
+use Rattle.std.proofs.lemmas.Iterator.{YieldsList-from_range}
+use Rattle.std.proofs.lemmas.Iterator.Search.{all_from_yields_List}
 use Rattle.lent_lists.specs.Items.{items_in}
-use Rattle.wire.proofs.Answers.{plain_broken, plain-passed, plain_all}
+use Rattle.wire.proofs.Answers.{plain_at, plain_by}
 use Rattle.wire.proofs.all_plain.Goals as goal
 
-pub returns-then-not-is_plain : goal.returns-then-not-is_plain
-returns-then-not-is_plain c =
-    plain_broken (items_in c.args.items.now) c.loop-i.i (omega (arith, c.items-n.ensures))
-    c.loop-i.invariant.1 c.item_at-item.ensures c.is_plain.ensures c.if-not-is_plain.true
-
-pub loop-i-preserved : goal.loop-i-preserved
-loop-i-preserved c = (
-  omega arith,
-  rw add-one (plain-passed (items_in c.args.items.now) c.loop-i.i (omega
-      (arith, c.items-n.ensures)) c.loop-i.invariant.1 c.item_at-item.ensures
-      c.is_plain.ensures c.if-not-is_plain.false),
-)
-
 pub returns : goal.returns
-returns c = plain_all (items_in c.args.items.now) c.loop-i.i (omega (arith, c.items-n.ensures)) c.loop-i.invariant.1
+returns c =
+    let l = items_in c.args.items.now in
+    let n = c.items.result in
+    let whole : n - 0 ≡ n = omega arith in
+    all_from_yields_List (plain_at l) _ _ _ c.all.ensures.ran (YieldsList-from_range 0 n n refl whole) (λ i b q k. search (rules, tests))
+    ∙ plain_by l n c.items.ensures
