@@ -1,26 +1,22 @@
 -- Lists in which no number comes twice, gone through from the first on.
 use Prim.Native.Nat.{ℕ, zero, suc, ◌+◌, ◌*◌, ◌/◌, ◌<◌, ◌≤◌}
-use mathlib.Core.Path.{◌≡◌, refl, sym}
-use mathlib.Core.Bool.{Bool, true, false, not, ◌&&◌}
+use mathlib.Core.Path.{◌≡◌, refl, sym, ap, ◌∙◌}
+use mathlib.Core.Bool.{Bool, true, false, not, ◌&&◌, ◌||◌}
 use mathlib.Core.List.{List, [], ◌∷◌, ◌++◌}
-use mathlib.Core.Logic.{inl, inr}
-use native.Mathlib.Numerals.{add-one}
 use native.Mathlib.Omega.{arith}
 use lib.Dec.{eqb}
 use lib.ListN.{length, take, get_or}
 use lib.Seq.{take-suc}
-use borrow.Author.Tests.{eqb-true, eq-eqb}
-use Rattle.std.specs.List.{list_any}
+use Rattle.std.proofs.Math.Bool.{or-false, and-true, or_assoc, and_assoc}
+use Rattle.std.specs.List.{list_any, list_all, range_with_len}
 use Rattle.words.specs.Words.{number}
 use Rattle.words.proofs.Records.{take-recs}
 use Rattle.ident.specs.Words.{hash_bytes}
 use Rattle.machine.specs.Claim.{elem}
 use Rattle.machine.specs.SoundTest.{no_repeat}
-use Rattle.machine.proofs.Tests.{test, never}
-use Rattle.machine.proofs.Distinct.{distinct_snoc}
-use Rattle.machine.proofs.SoundTest.{test-distinct}
+use Rattle.store.proofs.Counts.{eqb-sym}
 use Rattle.lent_lists.specs.Lists.{hashes_in}
-use Rattle.lent_lists.proofs.Given.{elem-met, length-hashes}
+use Rattle.lent_lists.proofs.Given.{length-hashes}
 use Rattle.listed_lines.specs.Given.{hashes_of}
 
 -- as a slice's `contains` tells it
@@ -29,30 +25,37 @@ unfolding elem
 any_elem x [] = refl
 any_elem x (y ∷ l) = rw (any_elem x l) refl
 
-pub none_repeats : (l : List ℕ) → no_repeat (take 0 l) ≡ true
-unfolding no_repeat
-none_repeats l = refl
+-- the i-th is none of those before it
+abbrev pub new_at : List ℕ → ℕ → Bool
+new_at l i = not (elem (get_or l i 0) (take i l))
 
--- the next one is not among those before it
-pub distinct_on : (l : List ℕ) (i : ℕ) → i < length l → no_repeat (take i l) ≡ true → elem (get_or l i 0) (take i l) ≡ false → no_repeat (take (i + 1) l) ≡ true
-distinct_on l i h e d =
-    rw (add-one i, take-suc l i 0 h)
-    ((test-distinct (take i l ++ (get_or l i 0 ∷ []))).passes (distinct_snoc (get_or l i 0) (take i l) ((test-distinct (take i l)).holds e) d))
+elem-last : (x y : ℕ) (l : List ℕ) → elem y (l ++ (x ∷ [])) ≡ (elem y l || eqb x y)
+unfolding elem
+elem-last x y [] = or-false (eqb x y)
+elem-last x y (z ∷ l) = ap (λ (b : Bool). eqb z y || b) (elem-last x y l) ∙ or_assoc (eqb z y) (elem y l) (eqb x y)
 
--- it is
-pub repeated : (l : List ℕ) (i n : ℕ) → i < n → n ≤ length l → elem (get_or l i 0) (take i l) ≡ true → no_repeat (take n l) ≡ false
+no_repeat-last : (x : ℕ) (l : List ℕ) → no_repeat (l ++ (x ∷ [])) ≡ (no_repeat l && not (elem x l))
 unfolding elem no_repeat
-repeated [] i n h g e = absurd (omega arith)
-repeated (x ∷ l) zero n h g e = never e
-repeated (x ∷ l) (suc i) zero h g e = absurd (omega arith)
-repeated (x ∷ l) (suc i) (suc n) h g e = elim (test (eqb x (get_or l i 0))) [
-  | inl d ↦ let z = eqb-true x (get_or l i 0) d in rw (elem-met x l n i (omega arith) (omega arith) (eq-eqb (get_or l i 0) x (sym z)))
-  | inr d ↦ rw (repeated l i n (omega arith) (omega arith) (rw d at e)) (never_both (not (elem x (take n l))))
-]
+no_repeat-last x [] = refl
+no_repeat-last x (y ∷ l) = rw (elem-last x y l, no_repeat-last x l, eqb-sym x y) (both (elem y l) (eqb y x) (no_repeat l) (elem x l))
   where
-    never_both : (a : Bool) → (a && false) ≡ false
-    never_both true = refl
-    never_both false = refl
+    both : (a b c d : Bool) → (not (a || b) && (c && not d)) ≡ ((not a && c) && not (b || d))
+    both true b c d = refl
+    both false true true d = refl
+    both false true false d = refl
+    both false false c d = refl
+
+scan-last : (p : ℕ → Bool) (n a j : ℕ) → a + n ≡ j → list_all p (range_with_len a (suc n)) ≡ (list_all p (range_with_len a n) && p j)
+scan-last p zero a j e = let f : j ≡ a = omega arith in rw f (and-true (p a))
+scan-last p (suc n) a j e = ap (λ (b : Bool). p a && b) (scan-last p n (a + 1) j (omega arith)) ∙ and_assoc (p a) (list_all p (range_with_len (a + 1) n)) (p j)
+
+pub distinct_by : (l : List ℕ) (n : ℕ) → n ≤ length l → list_all (new_at l) (range_with_len 0 n) ≡ no_repeat (take n l)
+unfolding no_repeat
+distinct_by l zero h = refl
+distinct_by l (suc n) h =
+    scan-last (new_at l) n 0 n (omega arith)
+    ∙ ap (λ (b : Bool). b && new_at l n) (distinct_by l n (omega arith))
+    ∙ sym (ap no_repeat (take-suc l n 0 (omega arith)) ∙ no_repeat-last (get_or l n 0) (take n l))
 
 -- ---- hashes of bytes
 

@@ -29,7 +29,7 @@ use Rattle.wire.proofs.Records.{length_wires, answer_back, read_fits, read_plain
 -- ---- other items of the three types, one item at a time
 
 -- there is an item at every index that is looked at
-no_item : Item
+pub no_item : Item
 no_item = record { kind = Other 0; hash = 0 }
 
 -- the i-th is plain

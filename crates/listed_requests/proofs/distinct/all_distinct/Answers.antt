@@ -1,28 +1,20 @@
--- `listed_requests::distinct::all_distinct` meets its contract.
-use mathlib.Core.Path.{◌≡◌, sym, ap, ◌∙◌}
+-- `listed_requests::distinct::all_distinct` meets its contract: a scan of the indices.
+use Prim.Native.Nat.{◌-◌}
+use mathlib.Core.Path.{◌≡◌, refl, ap, ◌∙◌}
 use native.Mathlib.Omega.{arith}
 use lib.ListN.{length}
 use lib.Seq.{take_all}
+use Rattle.std.proofs.Common.{rules, tests}
+use Rattle.std.proofs.lemmas.Iterator.{YieldsList-from_range}
+use Rattle.std.proofs.lemmas.Iterator.Search.{all_from_yields_List}
 use Rattle.machine.specs.SoundTest.{no_repeat}
-use Rattle.listed_requests.proofs.Repeats.{none_repeats, distinct_on, repeated}
+use Rattle.listed_requests.proofs.Repeats.{new_at, distinct_by}
 use Rattle.listed_requests.proofs.distinct.all_distinct.Goals as goal
-
-pub loop-i-init : goal.loop-i-init
-loop-i-init c = (omega arith, none_repeats c.args.list.now)
-
-pub returns-then-stands : goal.returns-then-stands
-returns-then-stands c =
-    let l = c.args.list.now in
-    sym (ap no_repeat (sym (take_all (length l) l (omega arith))) ∙ repeated l c.loop-i.i (length l) (omega arith) (omega arith) (sym c.stands.ensures ∙ c.if-stands.true))
-
-pub loop-i-preserved : goal.loop-i-preserved
-loop-i-preserved c = (
-  omega arith,
-  distinct_on c.args.list.now c.loop-i.i (omega arith) c.loop-i.invariant.1 (sym c.stands.ensures ∙ c.if-stands.false),
-)
 
 pub returns : goal.returns
 returns c =
     let l = c.args.list.now in
-    let e : c.loop-i.i ≡ length l = omega arith in
-    sym (ap no_repeat (sym (take_all (length l) l (omega arith))) ∙ rw e at c.loop-i.invariant.1)
+    let n = length l in
+    let whole : n - 0 ≡ n = omega arith in
+    all_from_yields_List (new_at l) _ _ _ c.all.ensures.ran (YieldsList-from_range 0 n n refl whole) (λ i b q k. search (rules, tests))
+    ∙ distinct_by l n (omega arith) ∙ ap no_repeat (take_all n l (omega arith))

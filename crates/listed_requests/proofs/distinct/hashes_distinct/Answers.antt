@@ -1,34 +1,19 @@
--- `listed_requests::distinct::hashes_distinct` meets its contract.
-use mathlib.Core.Path.{◌≡◌, sym, ap, ◌∙◌}
+-- `listed_requests::distinct::hashes_distinct` meets its contract: a scan of the indices.
+use Prim.Native.Nat.{◌-◌}
+use mathlib.Core.Path.{◌≡◌, refl, ap, ◌∙◌}
 use native.Mathlib.Omega.{arith}
+use Rattle.std.proofs.Common.{rules, tests}
+use Rattle.std.proofs.lemmas.Iterator.{YieldsList-from_range}
+use Rattle.std.proofs.lemmas.Iterator.Search.{all_from_yields_List}
 use Rattle.machine.specs.SoundTest.{no_repeat}
 use Rattle.lent_lists.specs.Lists.{hashes_in}
-use Rattle.listed_requests.proofs.Repeats.{none_repeats, distinct_on, repeated, so_many, first-hashes}
+use Rattle.listed_requests.proofs.Repeats.{new_at, distinct_by, so_many, first-hashes}
 use Rattle.listed_requests.proofs.distinct.hashes_distinct.Goals as goal
-
-pub loop-i-init : goal.loop-i-init
-loop-i-init c = (omega arith, none_repeats (hashes_in c.args.s.now))
-
-pub occurs_before-requires : goal.occurs_before-requires
-occurs_before-requires c = omega (arith, c.loop-i-test.true, so_many c.args.s.now c.args.n c.requires)
-
-pub returns-then-occurs_before : goal.returns-then-occurs_before
-returns-then-occurs_before c =
-    let a = c.args in
-    let b = a.s.now in
-    sym (ap no_repeat (sym (first-hashes b a.n c.requires)) ∙ repeated (hashes_in b) c.loop-i.i a.n
-    (omega (arith, c.loop-i-test.true)) (so_many b a.n c.requires) (sym c.occurs_before.ensures ∙ c.if-occurs_before.true))
-
-pub loop-i-preserved : goal.loop-i-preserved
-loop-i-preserved c =
-    let a = c.args in (
-      omega arith,
-      distinct_on (hashes_in a.s.now) c.loop-i.i (omega (arith, c.loop-i-test.true, so_many a.s.now a.n c.requires))
-          c.loop-i.invariant.1 (sym c.occurs_before.ensures ∙ c.if-occurs_before.false),
-    )
 
 pub returns : goal.returns
 returns c =
-    let a = c.args in
-    let e : c.loop-i.i ≡ a.n = omega arith in
-    sym (ap no_repeat (sym (first-hashes a.s.now a.n c.requires)) ∙ rw e at c.loop-i.invariant.1)
+    let b = c.args.s.now in
+    let n = c.args.n in
+    let whole : n - 0 ≡ n = omega arith in
+    all_from_yields_List (new_at (hashes_in b)) _ _ _ c.all.ensures.ran (YieldsList-from_range 0 n n refl whole) (λ i b q k. search (rules, tests))
+    ∙ distinct_by (hashes_in b) n (so_many b n c.requires) ∙ ap no_repeat (first-hashes b n c.requires)
