@@ -37,9 +37,6 @@ pub record Sought (b : List ℕ) (i : ℕ) (t : Table) : Type 0 where
 pub record Searched (b : List ℕ) (from i : ℕ) : Type 0 where
   pub is : (t : Table) → Body b from (requests_only t) → Ordered 0 t → every (uncrowded max_alternates) t ≡ true → Sought b i t
 
-pub search-begin : (b : List ℕ) (from : ℕ) → Searched b from from
-search-begin b from = record { is = λ t y o f. record { left = requests_only t; body = y; ordered = o; few = f; same = λ h. refl } }
-
 pub txid-kind : (k : Kind) → same_kind k Wtxid ≡ false → k ≡ Txid
 txid-kind Txid e = refl
 txid-kind Wtxid e = never (sym e)

@@ -1,6 +1,6 @@
 -- Txid requests below a hash, passed one after the other.
 use Prim.Native.Nat.{ℕ, ◌≤◌}
-use mathlib.Core.Path.{◌≡◌, refl, sym, ap, ◌∙◌}
+use mathlib.Core.Path.{◌≡◌, sym, ap, ◌∙◌}
 use mathlib.Core.Bool.{Bool, true, false}
 use mathlib.Core.List.{List, ◌∷◌}
 use native.Mathlib.Omega.{arith}
@@ -18,12 +18,9 @@ use Rattle.listed_lines.specs.Given.{request_in}
 use Rattle.listed_requests.specs.Parts.{uncrowded, pairs_fit}
 use Rattle.listed_requests.specs.Given.{TakesRequest}
 use Rattle.listed_requests.proofs.Crowds.{test_few}
-use Rattle.listed_pairs.specs.Given.{Skips, Below, PassesBelow}
+use Rattle.listed_pairs.specs.Given.{Skips, Below}
 use Rattle.listed_pairs.proofs.Facing.{weaken, first_few, others_few, front_first}
 use Rattle.listed_pairs.proofs.Seeking.{txid-kind}
-
-pub below_none : (b : List ℕ) (from k : ℕ) → Below b from from k
-below_none b from k = record { on = omega arith; is = λ p y o f. record { table = p; body = y; ordered = o; few = f; same = λ w u a e. refl } }
 
 pub few_in : (q : Request) (t : Table) → every (uncrowded max_alternates) (q ∷ t) ≡ true → length q.candidates ≤ max_alternates
 few_in q t h = ((test_few max_alternates q.candidates).holds (first_few max_alternates q t h)).few
@@ -51,6 +48,3 @@ below_on {b} {from} {i} {k} a {ws} {ps} {r} n x-is x-no y-is y-yes {e} s = recor
             ∙ front_first max_alternates q v.table w u o' g (txid-kind r.key.kind (sym x-is ∙ x-no)) (first_few max_alternates q v.table c') (omega arith);
       };
 }
-
-pub then_below : {b : List ℕ} {from i e k : ℕ} → Skips b from i → Below b i e k → PassesBelow b from e k
-then_below s a = record { on = omega (arith, s.on, a.on); is = λ q y h o f. a.is q.table (s.is q y h) o f }
