@@ -34,7 +34,7 @@ pub fn same_hash(a: ident::Hash, b: ident::Hash) -> bool
     a == b
 }
 
-// Whether the i-th hash is one of those before it.
+// Whether the i-th hash is one of those before it. (A loop, and no `any`: over indices that takes a closure with a contract of its own, longer than the loop.)
 pub fn occurs_before(s: &[u8], i: usize) -> bool
     requires { i < length (hashes_in s.now) }
     ensures { result ≡ elem (get_or (hashes_in s.now) i 0) (take i (hashes_in s.now)) }
@@ -99,11 +99,9 @@ pub fn put_key(u: &mut [u8], n: usize, k: ident::Key)
     requires { key_bytes * n + key_bytes ≤ length u.old }
     ensures { u.new ≡ splice u.old (key_bytes * n) (key_answer (key_num k)) }
 {
-    let kind = k.kind;
-    let hash = k.hash;
     let w = n * 5;
-    words::put(u, w, u64::from(kind));
-    ident::put_hash(u, w * 8 + 8, hash);
+    words::put(u, w, u64::from(k.kind));
+    ident::put_hash(u, w * 8 + 8, k.hash);
 }
 
 // ---- keys back
@@ -114,8 +112,7 @@ pub fn key_at(u: &[u8], i: usize) -> ident::Key
     ensures { key_num result ≡ key_in (take key_bytes (drop (key_bytes * i) u.now)) }
 {
     let w = i * 5;
-    let v = words::get(u, w);
-    let kind = ident::Kind::from(v);
+    let kind = ident::Kind::from(words::get(u, w));
     let hash = ident::hash_at(u, w * 8 + 8);
     ident::Key { kind, hash }
 }
