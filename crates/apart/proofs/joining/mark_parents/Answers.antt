@@ -1,15 +1,9 @@
 -- `apart::joining::mark_parents` meets its contract.
-use mathlib.Core.Path.{refl, ◌∙◌}
+use mathlib.Core.Path.{◌∙◌}
 use native.Mathlib.Omega.{arith}
-use Rattle.apart.proofs.Alongside.{marking-starts, marking_kept, marking_goes, marking-ends}
+use Rattle.apart.proofs.Alongside.{marking_goes, marking-ends}
 use Rattle.announcing.proofs.Lent.{hash_low}
 use Rattle.apart.proofs.joining.mark_parents.Goals as goal
-
-pub loop-j-init : goal.loop-j-init
-loop-j-init c = ((omega arith, c.requires.1), refl, marking-starts _ _ _ _)
-
-pub mark-requires : goal.mark-requires
-mark-requires c = marking_kept c.loop-j.invariant.2 c.requires.0
 
 pub loop-j-preserved : goal.loop-j-preserved
 loop-j-preserved c = (
