@@ -153,6 +153,8 @@ fn take_row(pass: Pass, t: &mut [u32], guesses: Guesses, x: u64, own: u32) -> bo
 }
 
 // Takes the rows off the entries that the pass counts. False if a row inside has a connection without an entry, or an entry has fewer.
+// (By itself: inlined, what it goes by stands on the stack, and the sound test takes up to a twentieth longer.)
+#[inline(never)]
 fn count_rows(rows: Records<Row>, pass: Pass, t: &mut [u32], guesses: Guesses) -> bool
     requires { (length t.old ≤ many)
         × Within (λ e j. Left [] e (get_or t.old j 0)) (recs conn_size read_conn pass.conns.count (words pass.conns.bytes.now)) pass.lo (length t.old) }

@@ -40,7 +40,8 @@ plain_from : (l : List Item) (n i : ℕ) → i + n ≡ length l → list_all (pl
 unfolding all_plain
 plain_from l zero i h = let e : length l ≤ i = omega arith in rw (drop_of_length-le l e) refl
 plain_from l (suc n) i h =
-    ap (λ (b : Bool). plain_at l i && b) (plain_from l n (i + 1) (omega arith)) ∙ sym (ap all_plain (drop-cons l i no_item (omega arith)) ∙ ap (λ (j : ℕ). plain_at l i && all_plain (drop j l)) (sym (add-one i)))
+    ap (λ (b : Bool). plain_at l i && b) (plain_from l n (i + 1) (omega arith))
+    ∙ sym (ap all_plain (drop-cons l i no_item (omega arith)) ∙ ap (λ (j : ℕ). plain_at l i && all_plain (drop j l)) (sym (add-one i)))
 
 pub plain_by : (l : List Item) (n : ℕ) → n ≡ length l → list_all (plain_at l) (range_with_len 0 n) ≡ all_plain l
 plain_by l n h = plain_from l n 0 (omega arith)
