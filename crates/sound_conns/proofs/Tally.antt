@@ -5,11 +5,11 @@ use mathlib.Core.Logic.{◌⊎◌, inl, inr}
 use mathlib.Core.Bool.{Bool, true, false, ◌&&◌}
 use mathlib.Core.List.{List, [], ◌∷◌, ◌++◌}
 use native.Mathlib.Omega.{arith}
-use lib.Dec.{eqb, ltb, leb}
+use lib.Dec.{eqb}
 use lib.ListN.{length, take, drop, get_or, set}
 use lib.Seq.{get_or-set_same, get_or-set_other}
-use borrow.Author.Tests.{eqb-true, eqb-false, leb-true, leb-false, eq-eqb, ne_eqb}
-use Rattle.words.specs.Words.{recs, Decides}
+use borrow.Author.Tests.{eqb-true, eqb-false, eq-eqb, ne_eqb}
+use Rattle.words.specs.Words.{recs}
 use Rattle.words.proofs.Records.{length-recs, recs-add, recs_at}
 use Rattle.regions.specs.declared.Row.{Row}
 use Rattle.regions.specs.declared.Conn.{Conn}
@@ -23,7 +23,7 @@ use Rattle.store.proofs.Counts.{rows_append}
 use Rattle.store.proofs.Certify.{own-bit}
 use Rattle.sound_conns.specs.Conns.{half, held_by, owned_by, Counts, Left, names, Rising, Named, Less, Enough, Lessened}
 use Rattle.sound_conns.specs.Conns.{Short, Lessening, Inside, Holds, NamedIn, Took, Lacks, Taking, Tallied, blank, Within, Window}
-use Rattle.sound_rows.proofs.Decide.{Iff, test-decides, test_and, test_less}
+use Rattle.sound_rows.proofs.Decide.{Iff}
 use Rattle.sound_conns.proofs.Entries.{length-names, name-entry}
 
 -- ---- one counter less
@@ -100,10 +100,6 @@ counts-grow p n i w h =
     rw (g, rows_append) (omega arith)
 
 -- ---- a row is taken
-
-pub inside-decides : (done last x : ℕ) → Decides (ltb done x && leb x last) (Inside done last x)
-inside-decides done last x = test-decides (ltb done x && leb x last) (test_and (ltb done x) (leb x last) (test_less done x)
-    (record { holds = leb-true x last; fails = λ e h. absurd (omega (arith, leb-false x last e)) }))
 
 module _ (ks : List ℕ) (done last lo x own : ℕ) (t : List ℕ) where
   pub took_outside : (Inside done last x → ⊥) → Holds done last ks lo (length t) → Took ks done last lo x own t t

@@ -130,11 +130,12 @@ fn take_off(t: &mut [u32], lo: usize, k: usize, own: u32) -> bool
     true
 }
 
-// Whether x is above done and not above last: one branch for its caller, where two would be foretold badly.
+// Whether x is above done and not above last, by the distance from done. (One comparison: two become two branches, which are foretold badly where there
+// are many connections, and the sound test of 100,000 takes a fifth longer.)
 fn inside(pass: Pass, x: u64) -> bool
     ensures { Decides result (Inside pass.entry.done pass.entry.last x) }
 {
-    (pass.done < x) & (x <= pass.last)
+    x.wrapping_sub(pass.done).wrapping_sub(1) < pass.last.saturating_sub(pass.done)
 }
 
 // Takes a row of the connection x off its entry, if x is inside. False if x has no entry, or one with too little left.
