@@ -160,7 +160,7 @@ def safe(root):
 def words(root):
     """The words that the event program compares a line's first field with."""
     files = glob.glob(os.path.join(root, "crates/asking/src/**/*.rt"), recursive=True)
-    return {word for file in files for word in re.findall(r'\(b"(\w+)", Word::', read(root, file))}
+    return {word for file in files for word in re.findall(r'\bnamed\(\s*\w+,\s*b"(\w+)",', read(root, file))}
 
 
 def listed_words(root):

@@ -1,5 +1,4 @@
 pub mod Filled
 pub mod Openings
-pub mod Tabled
 pub mod Worded
 pub mod Worked

@@ -1,6 +1,5 @@
 -- The words of event lines (docs/EVENTS.md, "Words"): the first field of a line.
-use Rattle.std.specs.Borrow.{Bor}
-use Rattle.std.specs.Prelude.{ℕ, List, [], ◌∷◌, if◌then◌else◌, Option, None, Some, find, option_map}
+use Rattle.std.specs.Prelude.{ℕ, List, [], ◌∷◌, if◌then◌else◌, Option, None, Some}
 use Rattle.machine.specs.Fields.{same_text}
 use Rattle.asking.specs.declared.vocabulary.Word.{Word}
 use Rattle.asking.specs.declared.vocabulary.Word.TheVariants.{Open as OpenWord, Sum as SumWord, Leave as LeaveWord, Inventory as InventoryWord}
@@ -163,7 +162,3 @@ word_of f =
     if same_text f open_text then Some OpenWord
     else if same_text f sum_text then Some SumWord
     else request_word f
-
--- the first word of a table of texts and words whose text the field f is
-unfoldable pub named_in : List ℕ → List (Bor (List ℕ) × Word) → Option Word
-named_in f ws = option_map (λ w. w.1) (find (λ w. same_text f w.0.now) ws)

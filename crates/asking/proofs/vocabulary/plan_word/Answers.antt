@@ -1,0 +1,15 @@
+-- `asking::vocabulary::plan_word` meets its contract.
+use Rattle.asking.specs.Words.{plan_word}
+use Rattle.asking.proofs.vocabulary.plan_word.Goals as goal
+
+pub returns : goal.returns
+unfolding plan_word
+returns c =
+    rw (
+      c.named.ensures,
+      c.named-w-5.ensures,
+      c.named-w-4.ensures,
+      c.named-w-3.ensures,
+      c.named-w-2.ensures,
+      c.named-w.ensures,
+    )
