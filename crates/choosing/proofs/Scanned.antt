@@ -1,8 +1,8 @@
 -- A scan of rows for the candidate to choose: what each test shows, and what one row more does.
-use Prim.Native.Nat.{ℕ, suc, ◌+◌, ◌-◌, ◌/◌, ◌%◌, ◌≤◌, ◌<◌}
+use Prim.Native.Nat.{ℕ, zero, suc, ◌+◌, ◌-◌, ◌/◌, ◌%◌, ◌≤◌, ◌<◌}
 use mathlib.Core.Path.{◌≡◌, refl, sym, ap, ◌∙◌}
 use mathlib.Core.Logic.{inl, inr}
-use mathlib.Core.Bool.{Bool, true, false, not, ◌&&◌}
+use mathlib.Core.Bool.{Bool, true, false, not, ◌&&◌, ◌||◌}
 use mathlib.Core.List.{List, [], ◌∷◌}
 use mathlib.Core.Option.{Option, none, some}
 use native.Mathlib.Omega.{arith}
@@ -10,6 +10,7 @@ use lib.Dec.{ltb, eqb}
 use lib.ListN.{length, get_or}
 use lib.Seq.{drop-cons}
 use borrow.Author.Tests.{lt-ltb, le-ltb, lt-leb, le-leb, eq-eqb, ne_eqb, eqb-true, eqb-false, ltb-true, ltb-false}
+use Rattle.std.specs.List.{list_any, range_with_len}
 use Rattle.std.specs.Prelude.{if◌then◌else◌}
 use Rattle.regions.specs.declared.Row.{Row}
 use Rattle.machine.specs.Limits.{max_in_flight}
@@ -99,10 +100,6 @@ module _ (rs : List Row) where
   unfolding least_rows
   least_none p i to h = let z : to - i ≡ 0 = omega arith in rw z refl
 
-  pub owns_none : (i to : ℕ) → to ≤ i → false ≡ any_owns (part i to rs)
-  unfolding any_owns
-  owns_none i to h = let z : to - i ≡ 0 = omega arith in rw z refl
-
   pub part_more : (i to : ℕ) (d : Row) → i < to → to ≤ length rs → part i to rs ≡ get_or rs i d ∷ part (i + 1) to rs
   part_more i to d l h =
       let m : i < length rs = omega arith in
@@ -116,12 +113,12 @@ module _ (rs : List Row) where
   unfolding least_rows
   least_step p d i to e l h q f w = rw (part_more i to d l h, ← f, ← e, ← w) q
 
-  -- a turn of the scan for an owner
-  module _ {r : Row} (d : Row) (i to : ℕ) (l : i < to) (h : to ≤ length rs) (f : r ≡ get_or rs i d) where
-    pub owns_here : owns r ≡ true → true ≡ any_owns (part i to rs)
-    unfolding any_owns
-    owns_here e = rw (part_more i to d l h, ← f, e) refl
+  -- the i-th owns its request
+  abbrev pub owns_at : Row → ℕ → Bool
+  owns_at d i = owns (get_or rs i d)
 
-    pub owns-later : owns r ≡ false → any_owns (part (i + 1) to rs) ≡ any_owns (part i to rs)
-    unfolding any_owns
-    owns-later e = rw (part_more i to d l h, ← f, e) refl
+  pub owns_by : (d : Row) (n i to : ℕ) → to - i ≡ n → to ≤ length rs → list_any (owns_at d) (range_with_len i n) ≡ any_owns (part i to rs)
+  unfolding any_owns
+  owns_by d zero i to e h = rw e refl
+  owns_by d (suc n) i to e h =
+      ap (λ (b : Bool). owns_at d i || b) (owns_by d n (i + 1) to (omega arith) h) ∙ sym (ap any_owns (part_more i to d (omega arith) h))

@@ -112,13 +112,7 @@ fn owned_in(s: &[u8], x: requests::Window) -> bool
     requires { Shown s.now × (x.to ≤ rows_in s.now) }
     ensures { (f : Flat) → Shows s.now f → result ≡ any_owns (part x.from x.to f.rows) }
 {
-    for i in x.from..x.to {
-        let r = store::rows::row_at(s, i);
-        if r.owns() {
-            return true;
-        }
-    }
-    false
+    (x.from..x.to).any(|i| store::rows::row_at(s, i).owns())
 }
 
 // ---- a hash

@@ -1,5 +1,5 @@
 -- The owner of a request, read from its rows.
-use Prim.Native.Nat.{ℕ, zero, suc, ◌+◌, ◌-◌, ◌/◌, ◌%◌, ◌≤◌, ◌<◌}
+use Prim.Native.Nat.{ℕ, zero, suc, ◌+◌, ◌-◌, ◌≤◌, ◌<◌}
 use mathlib.Core.Path.{◌≡◌, refl, sym, ap, subst, ◌∙◌}
 use mathlib.Core.Logic.{inl, inr}
 use mathlib.Core.Bool.{true, false}
@@ -19,7 +19,7 @@ use Rattle.machine.specs.State.{Candidate, Owner, Request, State, owner_is}
 use Rattle.machine.specs.Table.{at, has, one}
 use Rattle.machine.specs.Sound.{Sound, OwnerFits}
 use Rattle.machine.proofs.Table.{lawful_at}
-use Rattle.machine.proofs.Tests.{test, order}
+use Rattle.machine.proofs.Tests.{test}
 use Rattle.store.specs.Flat.{Flat, flat_of, deadline_for, own_bit, row_of, rows_for}
 use Rattle.store.specs.Image.{Shows, Writes}
 use Rattle.store.proofs.Bits.{own_row, conn-row}
@@ -116,22 +116,10 @@ module _ (st : State) (s : Sound st) (k : Key) {from to : ℕ} (e : from ≡ len
       window-owner before q q.candidates (rows_above k st.table) d
       (subst (λ (rs : List Row). OwnerRow rs d (length before) (length before + length q.candidates) o) (rows_at k 0 st.table s.bounded.ordered) (rw (e, end) at (f (flat_of st) d w)))
 
--- ---- the loop over rows: none of from .. i owns
+-- ---- the i-th row
 
-pub record Unowned (b : List ℕ) (from to i : ℕ) : Type 0 where
-  pub least : from ≤ i
-  pub most : i ≤ to
-  pub free : (f : Flat) (d : Row) → Shows b f → (j : ℕ) → from ≤ j → j < i → own_bit (get_or f.rows j d) ≡ 1 → ⊥
+abbrev pub Owns : List ℕ → ℕ → Type 0
+Owns b i = (f : Flat) (d : Row) → Shows b f → own_bit (get_or f.rows i d) ≡ 1
 
-pub unowned_more : {b : List ℕ} {from to i : ℕ} {r : Row} → Unowned b from to i → i < to → ((f : Flat) (d : Row) → Shows b f → r ≡ get_or f.rows i d) → (r.bits / 8 % 2 ≡ 1 → ⊥)
-    → Unowned b from to (i + 1)
-unowned_more {b} {from} {to} {i} {r} u l reads e = record {
-  least = omega (arith, u.least);
-  most = omega arith;
-  free = λ f d h j p q z.
-      elim (order j i) [
-        | inl a ↦ u.free f d h j p a z
-        | inr (inl a) ↦ e (ap own_bit (reads f d h ∙ ap (λ (x : ℕ). get_or f.rows x d) (sym a)) ∙ z)
-        | inr (inr a) ↦ omega arith
-      ];
-}
+abbrev pub OwnsNot : List ℕ → ℕ → Type 0
+OwnsNot b i = (f : Flat) (d : Row) → Shows b f → own_bit (get_or f.rows i d) ≡ 1 → ⊥

@@ -132,16 +132,12 @@ fn owner_in(s: &[u8], w: Window) -> Option<Owner>
     requires { Shown s.now × (w.to ≤ rows_in s.now) }
     ensures { OwnerAmong s.now w.from w.to result }
 {
-    for i in w.from..w.to {
-        let r = store::rows::row_at(s, i);
-        if r.owns() {
-            return Some(Owner {
-                connection: r.conn,
-                deadline: r.deadline,
-            });
-        }
-    }
-    None
+    let i = (w.from..w.to).find(|&i| store::rows::row_at(s, i).owns())?;
+    let r = store::rows::row_at(s, i);
+    Some(Owner {
+        connection: r.conn,
+        deadline: r.deadline,
+    })
 }
 
 fn stage_at(s: &[u8], k: ident::Key) -> Option<Stage>

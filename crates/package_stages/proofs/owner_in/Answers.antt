@@ -1,31 +1,37 @@
+-- `package_stages::owner_in` meets its contract: the first row that owns is found among those of the window.
+use mathlib.Core.Path.{ap}
 use native.Mathlib.Omega.{arith}
-use mathlib.Core.Path.{sym, ap, ◌∙◌}
+use Rattle.std.proofs.Common.{rules, tests}
+use Rattle.std.proofs.lemmas.Iterator.{first_from_Range}
 use Rattle.regions.specs.declared.Row.{Row}
-use Rattle.regions.proofs.Bits.{is_one, not_one}
-use Rattle.store.specs.Flat.{own_bit}
-use Rattle.package_stages.proofs.Owners.{unowned_more}
+use Rattle.package_stages.proofs.Owners.{Owns, OwnsNot}
 use Rattle.package_stages.proofs.owner_in.Goals as goal
 
-pub loop-i-init : goal.loop-i-init
-loop-i-init c = record { least = omega arith; most = c.args.w.order; free = λ f d h j p q z. omega arith }
+pub returns-in_err-i : goal.returns-in_err-i
+returns-in_err-i c =
+    let b = c.args.s.now in
+    let found = first_from_Range _ _ _ c.find.result (Owns b) (OwnsNot b) c.find.ensures.ran (λ i q k f d w. search (rules, tests)) (λ i q k. search (rules, tests)) in
+    let none = rw c.in_err-i.was at found in
+    rw c.from_residual.ensures (λ f d w j l h. none j l h f d w)
 
 pub row_at-r-requires : goal.row_at-r-requires
-row_at-r-requires c = (c.requires.0, omega (arith, c.loop-i-test.true, c.requires.1))
+row_at-r-requires c =
+    let b = c.args.s.now in
+    let found = first_from_Range _ _ _ c.find.result (Owns b) (OwnsNot b) c.find.ensures.ran (λ i q k f d w. search (rules, tests)) (λ i q k. search (rules, tests)) in
+    let here = rw c.in_ok-i.was at found in
+    (c.requires.0, omega (arith, here.1, c.requires.1))
 
-pub returns-then-owns : goal.returns-then-owns
-returns-then-owns c = λ f d h.
-    let e = c.row_at-r.ensures f d h in
+pub returns : goal.returns
+returns c = λ f d w.
+    let b = c.args.s.now in
+    let found = first_from_Range _ _ _ c.find.result (Owns b) (OwnsNot b) c.find.ensures.ran (λ i q k f d w. search (rules, tests)) (λ i q k. search (rules, tests)) in
+    let here = rw c.in_ok-i.was at found in
+    let e = c.row_at-r.ensures f d w in
     record {
-      index = c.loop-i.i;
-      least = c.loop-i.invariant.least;
-      most = c.loop-i-test.true;
-      owns = sym (ap own_bit e) ∙ is_one _ c.owns.ensures c.if-owns.true;
+      index = c.in_ok-i.i;
+      least = here.0;
+      most = here.1;
+      owns = here.2 f d w;
       connection = ap (λ (r : Row). r.conn) e;
       deadline = ap (λ (r : Row). r.deadline) e;
     }
-
-pub loop-i-preserved : goal.loop-i-preserved
-loop-i-preserved c = unowned_more c.loop-i.invariant c.loop-i-test.true c.row_at-r.ensures (not_one _ c.owns.ensures c.if-owns.false)
-
-pub returns : goal.returns
-returns c = λ f d h j p q z. c.loop-i.invariant.free f d h j p (omega (arith, c.loop-i-test.false)) z
