@@ -8,6 +8,7 @@ use native.Mathlib.Omega.{arith}
 use lib.Dec.{eqb}
 use lib.ListN.{length, get_or, drop}
 use borrow.Author.Tests.{eqb-true}
+use Rattle.std.specs.List.{list_all, range_with_len}
 use Rattle.machine.specs.Package.{same_list}
 use Rattle.machine.proofs.Tests.{never, and_left, and_right}
 
@@ -45,6 +46,14 @@ ended (x ∷ a) (y ∷ b) (suc j) h l = ended a b j (omega arith) (omega arith)
 pub compared : {r v : Bool} {x y z w : ℕ} → r ≡ eqb x y → x ≡ z → y ≡ w → r ≡ v → eqb z w ≡ v
 compared e p q t = cc
 
+-- the j-th of both are the same
+abbrev pub same_at : List ℕ → List ℕ → ℕ → Bool
+same_at a b j = eqb (get_or a j 0) (get_or b j 0)
+
+same_from : (a b : List ℕ) (n i : ℕ) → i + n ≡ length a → i + n ≡ length b → list_all (same_at a b) (range_with_len i n) ≡ same_list (drop i a) (drop i b)
+same_from a b zero i h l = sym (ended a b i (omega arith) (omega arith))
+same_from a b (suc n) i h l = ap (λ (t : Bool). same_at a b i && t) (same_from a b n (i + 1) (omega arith) (omega arith)) ∙ rw add-one (sym (step a b i (omega arith) (omega arith)))
+
 module _ (x c : ℕ) (a b : List ℕ) where
   pub other_hash : eqb x c ≡ false → false ≡ (eqb x c && same_list a b)
   other_hash e = rw e refl
@@ -53,14 +62,5 @@ module _ (x c : ℕ) (a b : List ℕ) where
     pub other_length : (length a ≡ length b → ⊥) → false ≡ (eqb x c && same_list a b)
     other_length n = rw e (sym (lengths_differ a b n))
 
-    -- after j pairs that are equal
-    module _ (j : ℕ) (v : same_list (drop j a) (drop j b) ≡ same_list a b) where
-      pub other_wtxid : j < length a → j < length b → eqb (get_or a j 0) (get_or b j 0) ≡ false → false ≡ (eqb x c && same_list a b)
-      other_wtxid h l d = rw e (sym (rw d at (step a b j h l)) ∙ v)
-
-      pub all_same : length a ≡ j → length b ≡ j → true ≡ (eqb x c && same_list a b)
-      all_same h l = rw e (sym (ended a b j h l) ∙ v)
-
-pub next_same : (a b : List ℕ) (j : ℕ) → same_list (drop j a) (drop j b) ≡ same_list a b → j < length a → j < length b → eqb (get_or a j 0) (get_or b j 0) ≡ true
-    → same_list (drop (j + 1) a) (drop (j + 1) b) ≡ same_list a b
-next_same a b j v h l d = rw add-one (sym (rw d at (step a b j h l)) ∙ v)
+    pub same_by : (n : ℕ) → n ≡ length a → n ≡ length b → list_all (same_at a b) (range_with_len 0 n) ≡ (eqb x c && same_list a b)
+    same_by n h l = rw e (same_from a b n 0 (omega arith) (omega arith))

@@ -2,12 +2,13 @@
 // struct would be made for one call and taken apart in it.
 #![tactic(auto)]
 
-ghost use Rattle.std.specs.Prelude.{◌≡◌, ◌<◌, ◌&&◌, eqb, Some};
+ghost use Rattle.std.specs.Prelude.{◌≡◌, ◌<◌, ◌&&◌, eqb, Some, length, get_or};
 ghost use Rattle.ident.specs.Number.{wtxid};
 ghost use Rattle.ident.specs.Words.{hash_num};
 ghost use Rattle.lent_lists.specs.Lists.{hashes_in};
 ghost use Rattle.machine.specs.Table.{at};
 ghost use Rattle.machine.specs.Package as machine;
+ghost use Rattle.places.specs.Places.{list_most};
 ghost use Rattle.store.specs.Shown.{held_places_in, Kept};
 ghost use Rattle.requests.specs.Changes.{Tells};
 ghost use Rattle.package_stages.specs.Changes.{stage_word, stage_of, wtxids_of, combined_of, ReadAt};
@@ -52,6 +53,16 @@ pub fn claim_package(
     true
 }
 
+// Whether the j-th wtxid of the package at the i-th place is the j-th of those given.
+fn same_wtxid(s: &[u8], i: usize, wtxids: &[u8], j: usize) -> bool
+    requires { Kept s.now × (i < held_places_in s.now) × (j < list_most) × (j < length (hashes_in wtxids.now)) × ReadAt s.now i (λ q. j < length (wtxids_of q.«package»)) }
+    ensures { ReadAt s.now i (λ q. result ≡ eqb (get_or (wtxids_of q.«package») j 0) (get_or (hashes_in wtxids.now) j 0)) }
+{
+    let a = package_stages::wtxid_at(s, i, j);
+    let b = lent_lists::hash_in(wtxids, j);
+    lent_lists::same_hash(a, b)
+}
+
 // Whether the i-th place has a package with this combined hash and these wtxids, in this order.
 fn same_package(s: &[u8], i: usize, combined: ident::Hash, wtxids: &[u8]) -> bool
     requires { Kept s.now × (i < held_places_in s.now) }
@@ -65,14 +76,7 @@ fn same_package(s: &[u8], i: usize, combined: ident::Hash, wtxids: &[u8]) -> boo
     if lent_lists::hashes(wtxids) != count {
         return false;
     }
-    for j in 0..count {
-        let a = package_stages::wtxid_at(s, i, j);
-        let b = lent_lists::hash_in(wtxids, j);
-        if !lent_lists::same_hash(a, b) {
-            return false;
-        }
-    }
-    true
+    (0..count).all(|j| same_wtxid(s, i, wtxids, j))
 }
 
 // The package, Awaiting until now, is Enqueued.
