@@ -1,16 +1,16 @@
 -- The last claim with a combined hash: the machine's is found among those noted, from the back.
-use Prim.Native.Nat.{ℕ, zero, suc, ◌+◌, ◌≤◌, ◌<◌}
+use Prim.Native.Nat.{ℕ}
 use mathlib.Core.Path.{◌≡◌, refl, sym, ap, ◌∙◌}
 use mathlib.Core.Logic.{inl, inr}
-use mathlib.Core.Bool.{Bool, true, false, ◌&&◌}
-use mathlib.Core.List.{List, [], ◌∷◌, map}
+use mathlib.Core.Bool.{Bool, true, false, cond, ◌&&◌}
+use mathlib.Core.List.{List, [], ◌∷◌, map, reverse, reverse-cons}
 use mathlib.Core.Option.{Option, none, some}
-use native.Mathlib.Numerals.{add-one}
-use native.Mathlib.Omega.{arith}
 use lib.Dec.{eqb}
-use lib.ListN.{length, drop, get_or, length-map, drop_of_length-le}
-use lib.Seq.{drop-cons}
-use Rattle.std.specs.Prelude.{if◌then◌else◌}
+use Rattle.std.specs.List.{find}
+use Rattle.std.specs.Option.{option_or}
+use Rattle.std.specs.Prelude as std
+use Rattle.std.specs.Prelude.{Some, None, if◌then◌else◌}
+use Rattle.std.proofs.lemmas.List.Folds.{find-append}
 use Rattle.ident.specs.declared.Kind.{Kind}
 use Rattle.ident.specs.declared.Kind.TheVariants.{Wtxid}
 use Rattle.ident.specs.Number.{Key, wtxid}
@@ -74,53 +74,27 @@ last_given {n} {t} {cs} c l a = ap (λ (z : List ℕ). last_among c z (noted_sum
 
 -- ---- from the back
 
-none_left : (c : ℕ) (l : List ℕ) → last_among c l [] ≡ none
+-- the claim is of the combined hash c
+abbrev pub sums_to : ℕ → Claim → Bool
+sums_to c x = eqb (hash_num x.combined) c
+
+abbrev pub key_of : std.Option Claim → Option Key
+key_of None = none
+key_of (Some x) = some (wtxid (hash_num x.key))
+
+first : (b : Bool) (x : Claim) → key_of (cond b (Some x) None) ≡ pick none b (wtxid (hash_num x.key))
+first true x = refl
+first false x = refl
+
+before : (b : Bool) (x : Claim) (o : std.Option Claim) → key_of (option_or o (cond b (Some x) None)) ≡ pick (key_of o) b (wtxid (hash_num x.key))
+before b x (Some y) = refl
+before b x None = first b x
+
+pub last_found : (c : ℕ) (cs : List Claim) → key_of (find (sums_to c) (reverse cs)) ≡ last_among c (noted_keys cs) (noted_sums cs)
 unfolding last_among
-none_left c [] = refl
-none_left c (h ∷ l) = refl
-
-nothing_some : {X : Type 0} {k : Key} {o : Option Key} → o ≡ none → o ≡ some k → X
-nothing_some p q = let z : ◌≡◌ {A = ℕ} 0 1 = cc in absurd (omega arith)
-
-later_wins : (c j : ℕ) (hs xs : List ℕ) (k : Key) → last_among c (drop j hs) (drop j xs) ≡ some k → last_among c hs xs ≡ some k
-unfolding last_among
-later_wins c zero hs xs k e = e
-later_wins c (suc j) [] xs k e = nothing_some refl e
-later_wins c (suc j) (h ∷ hs) [] k e = nothing_some (none_left c (drop j hs)) e
-later_wins c (suc j) (h ∷ hs) (x ∷ xs) k e = rw (later_wins c j hs xs k e)
-
--- none of those from j on
-pub record NoneFrom (c : ℕ) (cs : List Claim) (j : ℕ) : Type 0 where
-  pub most : j ≤ length cs
-  pub is : last_among c (drop j (noted_keys cs)) (drop j (noted_sums cs)) ≡ none
-
-pub none_yet : (c : ℕ) (cs : List Claim) {j : ℕ} → j ≡ length cs → NoneFrom c cs j
-unfolding last_among
-none_yet c cs {j} e = record { most = omega arith; is = rw (drop_of_length-le (noted_keys cs) {i = j} (rw length-map (omega arith))) }
-
--- a claim by its index
-claim_at : (f : Claim → ℕ) (cs : List Claim) (i : ℕ) (d : Claim) → i < length cs → get_or (map f cs) i 0 ≡ f (get_or cs i d)
-claim_at f [] i d h = absurd (omega arith)
-claim_at f (c ∷ cs) zero d h = refl
-claim_at f (c ∷ cs) (suc i) d h = claim_at f cs i d (omega arith)
-
-module _ {c : ℕ} {cs : List Claim} {j : ℕ} (i : ℕ) (v : NoneFrom c cs j) (e : j ≡ i + 1) (d : Claim) where
-  inside : i < length cs
-  inside = omega (arith, v.most)
-
-  abbrev x : Claim
-  x = get_or cs i d
-
-  step_is : last_among c (drop i (noted_keys cs)) (drop i (noted_sums cs)) ≡ (if eqb (hash_num x.combined) c then some (wtxid (hash_num x.key)) else none)
-  unfolding last_among
-  step_is =
-      let hs = noted_keys cs in
-      let xs = noted_sums cs in
-      let z : last_among c (drop (suc i) hs) (drop (suc i) xs) ≡ none = rw (← add-one i, ← e) v.is in
-      rw (drop-cons hs i 0 (rw length-map inside), drop-cons xs i 0 (rw length-map inside), z, claim_at (λ c. hash_num c.key) cs i d inside, claim_at (λ c. hash_num c.combined) cs i d inside)
-
-  pub none_more : eqb (hash_num x.combined) c ≡ false → NoneFrom c cs i
-  none_more n = record { most = omega (arith, v.most); is = step_is ∙ rw n }
-
-  pub found_here : eqb (hash_num x.combined) c ≡ true → some (wtxid (hash_num x.key)) ≡ last_among c (noted_keys cs) (noted_sums cs)
-  found_here y = sym (later_wins c i (noted_keys cs) (noted_sums cs) (wtxid (hash_num x.key)) (step_is ∙ rw y))
+last_found c [] = refl
+last_found c (x ∷ cs) =
+    ap (λ (l : List Claim). key_of (find (sums_to c) l)) (reverse-cons x cs)
+    ∙ ap key_of (find-append (sums_to c) (reverse cs) (x ∷ []))
+    ∙ before (sums_to c x) x (find (sums_to c) (reverse cs))
+    ∙ ap (λ (o : Option Key). pick o (sums_to c x) (wtxid (hash_num x.key))) (last_found c cs)

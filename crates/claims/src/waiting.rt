@@ -111,16 +111,12 @@ fn claims_of<'a>(s: &[u8], n: u64, room: &'a mut [Claim; MOST]) -> &'a [Claim]
 fn latest(claims: &[Claim], given: Option<ident::Hash>) -> Option<ident::Hash>
     ensures { key_found result ≡ last_of (hash_found given) claims.now }
 {
-    let Some(c) = given else {
-        return None;
-    };
-    for j in (0..claims.len()).rev() {
-        let claim = claims[j];
-        if lent_lists::same_hash(claim.combined, c) {
-            return Some(claim.key);
-        }
-    }
-    None
+    let c = given?;
+    let claim = claims
+        .iter()
+        .rev()
+        .find(|claim| lent_lists::same_hash(claim.combined, c))?;
+    Some(claim.key)
 }
 
 // failed_with_parents at the Wtxid key with hash h, unless it has failed before; lists its keys in `out` behind c others: c says where the next key

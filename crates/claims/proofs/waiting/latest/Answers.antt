@@ -1,14 +1,22 @@
-use Prim.Native.Nat.{◌-◌}
-use mathlib.Core.Path.{refl, sym, ◌∙◌}
-use native.Mathlib.Omega.{arith}
-use Rattle.claims.proofs.LastOnes.{none_yet, none_more, found_here}
+-- `claims::waiting::latest` meets its contract: the first that is found from the back.
+use mathlib.Core.Path.{ap, ◌∙◌}
+use Rattle.std.proofs.Common.{rules, tests}
+use Rattle.std.proofs.lemmas.Iterator.Adapters.{YieldsList-from_rev_slice}
+use Rattle.std.proofs.lemmas.Iterator.Search.{find_from_yields_List}
+use Rattle.ident.specs.Words.{hash_num}
+use Rattle.claims.proofs.LastOnes.{sums_to, key_of, last_found}
 use Rattle.claims.proofs.waiting.latest.Goals as goal
 
-pub loop-j-init : goal.loop-j-init
-loop-j-init c = none_yet _ _ refl
+pub returns-in_err-claim : goal.returns-in_err-claim
+returns-in_err-claim c =
+    let claims = c.args.claims.now in
+    let n = hash_num c.in_ok-c.c in
+    let found = find_from_yields_List (sums_to n) _ _ c.find.result c.find.ensures.ran (YieldsList-from_rev_slice claims (cc)) (λ x b q k. search (rules, tests)) in
+    rw (c.from_residual-in_err-claim.ensures, c.in_ok-c.was) (ap key_of (rw c.in_err-claim.was at found) ∙ last_found n claims)
 
-pub returns-then-same_hash : goal.returns-then-same_hash
-returns-then-same_hash c = rw c.in-Some.is (found_here (c.loop-j.j - 1) c.loop-j.invariant (omega (arith, c.loop-j-test.true)) _ (sym c.same_hash.ensures ∙ c.if-same_hash.true))
-
-pub loop-j-preserved : goal.loop-j-preserved
-loop-j-preserved c = none_more (c.loop-j.j - 1) c.loop-j.invariant (omega (arith, c.loop-j-test.true)) _ (sym c.same_hash.ensures ∙ c.if-same_hash.false)
+pub returns : goal.returns
+returns c =
+    let claims = c.args.claims.now in
+    let n = hash_num c.in_ok-c.c in
+    let found = find_from_yields_List (sums_to n) _ _ c.find.result c.find.ensures.ran (YieldsList-from_rev_slice claims (cc)) (λ x b q k. search (rules, tests)) in
+    rw c.in_ok-c.was (ap key_of (rw c.in_ok-claim.was at found) ∙ last_found n claims)
