@@ -16,7 +16,8 @@ pub struct Overdue {
     pub connection: u64,
 }
 
-// The first of the rows from `from` on whose owner's time is over. (A loop: the contract says where the row stands, which a `find` among rows does not tell.)
+// The first of the rows from `from` on whose owner's time is over. (A loop: tried with `find` over the indices, after which the row is read once more; that this
+// is the row found holds by what the bytes show, and was left open. A `map` to rows before it has no list of rows to name in a proof.)
 fn seek_due(s: &[u8], clock: u64, from: usize) -> Option<regions::Row>
     requires { Kept s.now × (from ≤ rows_in s.now) }
     ensures { SeekDue s.now clock from result }
