@@ -1,15 +1,17 @@
 -- What a call that defers the victims' going does with one announcement.
-use Prim.Native.Nat.{ℕ, suc, ◌+◌, ◌≤◌, ◌<◌}
+use Prim.Native.Nat.{ℕ, zero, suc, ◌+◌, ◌≤◌, ◌<◌}
 use mathlib.Core.Path.{◌≡◌, refl, sym, ap, subst, ◌∙◌}
 use mathlib.Core.Logic.{inl, inr}
 use mathlib.Core.Bool.{Bool, true, false}
-use mathlib.Core.List.{List, [], ◌∷◌, ◌++◌}
+use mathlib.Core.List.{List, [], ◌∷◌}
 use mathlib.Core.Option.{Option, none, some}
+use native.Mathlib.Numerals.{add-one}
 use native.Mathlib.Omega.{arith}
 use lib.Dec.{eqb}
-use lib.ListN.{length, take, get_or}
+use lib.ListN.{length, take, drop, get_or}
 use borrow.Author.Tests.{leb-true, leb-false}
-use lib.Seq.{take-suc}
+use lib.Seq.{drop-cons, take-suc}
+use Rattle.std.specs.List.{list_any, range_with_len}
 use Rattle.std.specs.Prelude as std
 use Rattle.std.specs.Prelude.{is_some}
 use Rattle.ident.specs.Number.{top, Key}
@@ -25,6 +27,8 @@ use Rattle.requests.specs.Changes.{Tells}
 use Rattle.announcing.specs.Enters.{Crowded}
 use Rattle.announcing.specs.Evicts.{found}
 use Rattle.announcing.specs.Falls.{list_space}
+use Rattle.machine.proofs.Tests.{or_left, or_right}
+use Rattle.announcing.proofs.Ranking.{row_in, row_there}
 use Rattle.announcing.proofs.Nobody.{none_greatest}
 use Rattle.announcing.proofs.Scanning.{none_found}
 use Rattle.announcing.proofs.GoneBy.{each_front}
@@ -37,30 +41,25 @@ use Rattle.gathering.proofs.Deferral.{out_same, owed_in}
 
 -- ---- the rows listed, one after the other
 
--- none of the first i is at the hash
-pub record Passed (v : List ℕ) (h i : ℕ) : Type 0 where
-  pub past : (rows : List Row) → i ≤ length rows → Holds row_size row_words list_space rows v → Each (λ (y : Row). eqb (key_at y).hash h ≡ false) (take i rows)
+-- the i-th is at the hash
+abbrev pub at_row : List ℕ → ℕ → ℕ → Bool
+at_row v h i = eqb (quad_number (row_in v i).hash) h
 
-pub passed_none : {v : List ℕ} {h : ℕ} → Passed v h 0
-passed_none = record { past = λ rows l g. tt }
+module _ (v : List ℕ) (h : ℕ) where
+  none_from : (rows : List Row) → Holds row_size row_words list_space rows v → (n i : ℕ) → i + n ≤ list_space → i + n ≤ length rows → list_any (at_row v h) (range_with_len i n) ≡ false
+      → Each (λ (y : Row). eqb (key_at y).hash h ≡ false) (take n (drop i rows))
+  unfolding key_at
+  none_from rows z zero i s l e = tt
+  none_from rows z (suc n) i s l e =
+      let x = row_in v i in
+      let rest = list_any (at_row v h) (range_with_len (i + 1) n) in
+      rw (drop-cons rows i x (omega arith)) (
+        sym (ap (λ (y : Row). eqb (quad_number y.hash) h) (row_there rows x i (omega arith) (omega arith) z)) ∙ or_left (at_row v h i) rest e,
+        rw (← add-one i) (none_from rows z n (i + 1) (omega arith) (omega arith) (or_right (at_row v h i) rest e)),
+      )
 
-pub passed_more : {v : List ℕ} {h i g : ℕ} {x : Row} {b : Bool} → Passed v h i → Found row_size row_words v read_row i x → g ≡ quad_number x.hash → b ≡ eqb g h → b ≡ false → Passed v h (i + 1)
-unfolding key_at
-passed_more {v} {h} {i} {g} {x} {b} p f q e n = record {
-  past = λ rows l z.
-      let s : i + 1 ≡ suc i = omega arith in
-      let here : x ≡ get_or rows i x = f.region list_space rows x (omega arith) z in
-      let t : take (i + 1) rows ≡ take i rows ++ (x ∷ []) = ap (λ (j : ℕ). take j rows) s ∙ take-suc rows i x (omega arith) ∙ ap (λ (y : Row). take i rows ++ (y ∷ [])) (sym here) in
-      subst (Each (λ (y : Row). eqb (key_at y).hash h ≡ false)) (sym t)
-      (more (take i rows) (p.past rows (omega arith) z) (ap (λ (j : ℕ). eqb j h) (sym q) ∙ sym e ∙ n));
-}
-  where
-    more : (l : List Row) → Each (λ (y : Row). eqb (key_at y).hash h ≡ false) l → eqb (key_at x).hash h ≡ false → Each (λ (y : Row). eqb (key_at y).hash h ≡ false) (l ++ (x ∷ []))
-    more [] a b = (b, tt)
-    more (y ∷ l) a b = (a.0, more l a.1 b)
-
-pub passed_all : {v : List ℕ} {h i n : ℕ} → Passed v h i → i ≡ n → ListedAt v n h false
-passed_all {v} {h} {i} {n} p e _ rows l z = subst (λ (j : ℕ). Each (λ (y : Row). eqb (key_at y).hash h ≡ false) (take j rows)) e (p.past rows (omega arith) z)
+  pub listed_by : {n : ℕ} {r : Bool} → n ≤ list_space → r ≡ list_any (at_row v h) (range_with_len 0 n) → ListedAt v n h r
+  listed_by {n} s e f rows l z = none_from rows z n 0 (omega arith) (omega arith) (sym e ∙ f)
 
 -- ---- how it fares
 

@@ -24,15 +24,7 @@ fn listed_at(top: &Victims, n: usize, h: ident::Hash) -> bool
     requires { n ≤ list_space }
     ensures { ListedAt (words top.now.bytes) n (hash_num h) result }
 {
-    for i in 0..n {
-        let x = top.get(i);
-        let q = x.hash;
-        let g = ident::Hash::from(q);
-        if lent_lists::same_hash(g, h) {
-            return true;
-        }
-    }
-    false
+    (0..n).any(|i| lent_lists::same_hash(ident::Hash::from(top.get(i).hash), h))
 }
 
 // How the announcement c at k fares beside those that wait, if the candidate of the row y, the next of the victims, goes for
