@@ -4,7 +4,7 @@ use Rattle.ident.specs.declared.Hash.{Hash}
 use Rattle.ident.specs.declared.Kind.TheVariants.{Txid}
 use Rattle.ident.specs.declared.ItemKind.TheVariants.{Transaction}
 use Rattle.ident.specs.Number.{top, Key, Item, type_of, item_kind_of, kind_is}
-use Rattle.ident.specs.Words.{key_num, item_num}
+use Rattle.ident.specs.Words.{key_num}
 use Rattle.words.specs.Words.{number, words, bytes_of, splice}
 use Rattle.machine.specs.Limits.{request_lifetime}
 use Rattle.machine.specs.State as machine
@@ -15,20 +15,21 @@ use Rattle.machine.specs.Sound.{Sound}
 use Rattle.machine.specs.Call.{entry_bytes}
 use Rattle.machine.specs.Step.{hash_bytes, entry_answer, entries_answer, written}
 use Rattle.store.specs.Image.{Writes}
+use Rattle.requests.specs.Changes.{candidate_of}
 use Rattle.announcing.specs.Answers.{Answered}
 use Rattle.claiming.specs.declared.Entry.{Entry}
 
 abbrev pub entry_of : Entry → machine.Entry
 entry_of e = record {
   key = key_num e.key;
-  candidate = record { connection = e.connection; item = item_num e.item; ready = e.ready; preferred = e.preferred; priority = e.priority };
+  candidate = candidate_of e.candidate;
 }
 
 -- the i-th entry of a list; past its end, an entry of zeros
 abbrev pub no_entry : Entry
 no_entry =
     let zeros : Hash = record { words = 0 ∷ 0 ∷ 0 ∷ 0 ∷ [] } in
-    record { key = record { kind = Txid; hash = zeros }; connection = 0; item = record { kind = Transaction; hash = zeros }; ready = 0; preferred = false; priority = 0 }
+    record { key = record { kind = Txid; hash = zeros }; candidate = record { connection = 0; item = record { kind = Transaction; hash = zeros }; ready = 0; preferred = false; priority = 0 } }
 
 abbrev pub nth_entry : List Entry → ℕ → Entry
 nth_entry l i = get_or l i no_entry

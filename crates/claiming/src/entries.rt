@@ -64,9 +64,10 @@ pub fn put_entry(u: &mut [u8], n: usize, e: crate::Entry)
     ensures { u.new ≡ splice u.old (entry_bytes * n) (entry_answer (entry_of e)) }
 {
     let w = n * ENTRY;
+    let c = e.candidate;
     put_key(u, w, e.key);
-    put_item(u, w + CONNECTION, e.connection, e.item);
-    put_three(u, w + READY, e.ready, u64::from(e.preferred), e.priority);
+    put_item(u, w + CONNECTION, c.connection, c.item);
+    put_three(u, w + READY, c.ready, u64::from(c.preferred), c.priority);
 }
 
 // Claims one entry, and writes it as the n-th of the answer if it is taken. Answers how many are written now.
@@ -126,11 +127,13 @@ pub fn entry_in(b: &[u8], i: usize) -> crate::Entry
     let w = i * ENTRY;
     crate::Entry {
         key: key_at(b, w),
-        connection: words::get(b, w + CONNECTION),
-        item: item_at(b, w + ITEM),
-        ready: words::get(b, w + READY),
-        preferred: words::get(b, w + PREFERRED) != 0,
-        priority: words::get(b, w + PRIORITY),
+        candidate: requests::Candidate {
+            connection: words::get(b, w + CONNECTION),
+            item: item_at(b, w + ITEM),
+            ready: words::get(b, w + READY),
+            preferred: words::get(b, w + PREFERRED) != 0,
+            priority: words::get(b, w + PRIORITY),
+        },
     }
 }
 

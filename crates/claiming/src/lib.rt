@@ -23,11 +23,7 @@ pub mod entries;
 #[derive(Clone, Copy, Debug, PartialEq, Eq)]
 pub struct Entry {
     pub key: ident::Key,
-    pub connection: u64,
-    pub item: ident::Item,
-    pub ready: u64,
-    pub preferred: bool,
-    pub priority: u64,
+    pub candidate: requests::Candidate,
 }
 
 // ---- the entry of a row
@@ -48,14 +44,16 @@ pub fn entry_of(r: regions::Row) -> Entry
     let key = announcing::evict::key_of(r);
     Entry {
         key,
-        connection: r.conn,
-        item: ident::Item {
-            kind: item_kind(r),
-            hash: key.hash,
+        candidate: requests::Candidate {
+            connection: r.conn,
+            item: ident::Item {
+                kind: item_kind(r),
+                hash: key.hash,
+            },
+            ready: r.ready,
+            preferred: r.is_preferred(),
+            priority: r.prio,
         },
-        ready: r.ready,
-        preferred: r.is_preferred(),
-        priority: r.prio,
     }
 }
 
@@ -80,6 +78,11 @@ pub fn claim_entry(s: &mut [u8], clock: Clock, e: Entry) -> bool
     if !takes(s, clock.time, e) {
         return false;
     }
-    requests::own(s, e.key, e.connection, clock.time + REQUEST_LIFETIME);
+    requests::own(
+        s,
+        e.key,
+        e.candidate.connection,
+        clock.time + REQUEST_LIFETIME,
+    );
     true
 }

@@ -87,17 +87,8 @@ fn put_entry(out: &mut [u8], at: usize, answer: &[u8], i: usize) -> usize
     ensures { Wrote out.old out.new at (entry_text (entry_from answer.now i)) result }
 {
     let a = claiming::entries::entry_in(answer, i);
-    let key = a.key;
-    let item = a.item;
-    let e = put_key(out, at, key);
-    let c = requests::Candidate {
-        connection: a.connection,
-        item,
-        ready: a.ready,
-        preferred: a.preferred,
-        priority: a.priority,
-    };
-    put_candidate(out, e, c)
+    let e = put_key(out, at, a.key);
+    put_candidate(out, e, a.candidate)
 }
 
 // n entries from the first on, each behind a comma. (As `keys::put_behind`: one function for both would take what puts the i-th as a closure, and a law of its text, in place of

@@ -25,7 +25,7 @@ pub use store::rows::Window;
 pub mod whole;
 
 // One announcement: who can deliver, as what item, from when on, and how it ranks. (`preferred` ranks by itself: no other field stands or falls with it.)
-#[derive(Clone, Copy)]
+#[derive(Clone, Copy, Debug, PartialEq, Eq)]
 pub struct Candidate {
     pub connection: u64,
     pub item: ident::Item,

@@ -39,7 +39,7 @@ arrange-sorted ws l t = ascend-sorted 0 (connections (arrange ws l t)) (ascend-s
 
 declared-connections : (l : List Entry) → connections_of l ≡ connections (map entry_of l)
 declared-connections [] = refl
-declared-connections (e ∷ l) = ap (λ (r : List ℕ). e.connection ∷ r) (declared-connections l)
+declared-connections (e ∷ l) = ap (λ (r : List ℕ). e.candidate.connection ∷ r) (declared-connections l)
 
 -- "one connection's requests are handed back as that part of the arranged list"
 pub part_of_arranged : (n : ℕ) (ws : List ℕ) (k : List machine.Entry) (t : Table) {l p : List Entry} → map entry_of l ≡ arrange ws k t → Parted n l p → map entry_of p ≡ part_of n (arrange ws k t)

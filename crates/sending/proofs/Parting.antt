@@ -26,7 +26,7 @@ at_most c n = elim (test (leb c n)) [
   | inr t ↦ rw t (sym (le-ltb c (n + 1) (omega (arith, leb-false c n t))))
 ]
 
-connection_at : (l : List Entry) (i : ℕ) (d : Entry) → i < length l → get_or (connections_of l) i 0 ≡ (get_or l i d).connection
+connection_at : (l : List Entry) (i : ℕ) (d : Entry) → i < length l → get_or (connections_of l) i 0 ≡ (get_or l i d).candidate.connection
 connection_at [] i d h = absurd (omega arith)
 connection_at (e ∷ l) zero d h = refl
 connection_at (e ∷ l) (suc i) d h = connection_at l i d (omega arith)
@@ -35,15 +35,15 @@ length-connections : (l : List Entry) → length (connections_of l) ≡ length l
 length-connections [] = refl
 length-connections (e ∷ l) = ap suc (length-connections l)
 
-by-connection : (l : List Entry) → Sorted (connections_of l) → IsNonDecreasingBy (λ (e : Entry). e.connection) l
+by-connection : (l : List Entry) → Sorted (connections_of l) → IsNonDecreasingBy (λ (e : Entry). e.candidate.connection) l
 unfolding Sorted
 by-connection l s i j d h g =
     let n = length-connections l in
     omega (arith, s i j h (omega arith), connection_at l i d (omega arith), connection_at l j d g)
 
 -- where a test against x changes in an arranged list
-pub sought : (l : List Entry) (x a : ℕ) (p : Entry → Bool) → ((e : Entry) → p e ≡ ltb e.connection x) → a ≤ length l
-    → (IsNonDecreasingBy (λ (e : Entry). e.connection) l → IsPartitionPoint (λ y. p y ≡ true) (λ y. p y ≡ false) l a) → Sought (connections_of l) (length l) x a
+pub sought : (l : List Entry) (x a : ℕ) (p : Entry → Bool) → ((e : Entry) → p e ≡ ltb e.candidate.connection x) → a ≤ length l
+    → (IsNonDecreasingBy (λ (e : Entry). e.candidate.connection) l → IsPartitionPoint (λ y. p y ≡ true) (λ y. p y ≡ false) l a) → Sought (connections_of l) (length l) x a
 sought l x a p t m f = record {
   most = m;
   bound = λ s.
@@ -51,8 +51,10 @@ sought l x a p t m f = record {
       let n = length-connections l in
       record {
         most = omega arith;
-        below = λ k h. omega (arith, connection_at l k no_entry (omega arith), ltb-true (get_or l k no_entry).connection x (sym (t (get_or l k no_entry)) ∙ g.0 k no_entry (omega arith) h));
-        above = λ k h o. omega (arith, connection_at l k no_entry (omega arith), ltb-false (get_or l k no_entry).connection x (sym (t (get_or l k no_entry)) ∙ g.1 k no_entry h (omega arith)));
+        below = λ k h.
+            omega (arith, connection_at l k no_entry (omega arith), ltb-true (get_or l k no_entry).candidate.connection x (sym (t (get_or l k no_entry)) ∙ g.0 k no_entry (omega arith) h));
+        above = λ k h o.
+            omega (arith, connection_at l k no_entry (omega arith), ltb-false (get_or l k no_entry).candidate.connection x (sym (t (get_or l k no_entry)) ∙ g.1 k no_entry h (omega arith)));
       };
 }
 
@@ -71,7 +73,7 @@ only_part n [] zero zero v = refl
 only_part n [] (suc a) c v = absurd (omega (arith, v.most))
 only_part n [] zero (suc c) v = absurd (omega (arith, v.most))
 only_part n (x ∷ l) (suc a) c v =
-    rw (ne_eqb x.connection n (v.before 0 (omega arith)))
+    rw (ne_eqb x.candidate.connection n (v.before 0 (omega arith)))
     (only_part n l a c (record {
       most = omega (arith, v.most);
       before = λ k h. v.before (suc k) (omega arith);
@@ -79,7 +81,7 @@ only_part n (x ∷ l) (suc a) c v =
       after = λ k h h'. v.after (suc k) (omega arith) (omega arith);
     }))
 only_part n (x ∷ l) zero (suc c) v =
-    rw (eq-eqb x.connection n (v.within 0 (omega arith) (omega arith)))
+    rw (eq-eqb x.candidate.connection n (v.within 0 (omega arith) (omega arith)))
     (ap (λ (r : List machine.Entry). entry_of x ∷ r)
     (only_part n l zero c (record {
       most = omega (arith, v.most);
@@ -88,7 +90,7 @@ only_part n (x ∷ l) zero (suc c) v =
       after = λ k h h'. v.after (suc k) (omega arith) (omega arith);
     })))
 only_part n (x ∷ l) zero zero v =
-    rw (ne_eqb x.connection n (v.after 0 (omega arith) (omega arith)))
+    rw (ne_eqb x.candidate.connection n (v.after 0 (omega arith) (omega arith)))
     (only_part n l zero zero (record {
       most = omega arith;
       before = λ k h. absurd (omega arith);

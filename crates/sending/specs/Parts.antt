@@ -6,7 +6,7 @@ use Rattle.claiming.specs.declared.Entry.{Entry}
 use Rattle.claiming.specs.Claiming.{entry_of}
 
 abbrev pub connections_of : List Entry → List ℕ
-connections_of l = map (λ (e : Entry). e.connection) l
+connections_of l = map (λ (e : Entry). e.candidate.connection) l
 
 -- "one connection's requests are handed back as that part of the arranged list": p is a part of l, and if l is "arranged by ascending
 -- connection" it is the connection n's

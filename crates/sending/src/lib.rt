@@ -13,7 +13,7 @@ pub mod witness;
 pub fn part(list: &[claiming::Entry], connection: u64) -> &[claiming::Entry]
     ensures { Parted connection list.now result.now }
 {
-    let first = list.partition_point(|e| e.connection < connection);
-    let end = list.partition_point(|e| e.connection <= connection);
+    let first = list.partition_point(|e| e.candidate.connection < connection);
+    let end = list.partition_point(|e| e.candidate.connection <= connection);
     &list[first..end.max(first)]
 }

@@ -66,10 +66,10 @@ fn for_witness(s: &[u8], witnesses: &[u8], known: Known, e: claiming::Entry) -> 
     requires { Kept s.now × Holds witnesses.now known }
     ensures { Turned s.now witnesses.now (entry_of e) result }
 {
-    if !is_transaction(e.item.kind) || !marked(s, e.key) {
+    if !is_transaction(e.candidate.item.kind) || !marked(s, e.key) {
         return Sent { entry: e, known };
     }
-    let asked = look_up(witnesses, known, e.connection);
+    let asked = look_up(witnesses, known, e.candidate.connection);
     if !asked.listed {
         return Sent {
             entry: e,
@@ -78,10 +78,16 @@ fn for_witness(s: &[u8], witnesses: &[u8], known: Known, e: claiming::Entry) -> 
     }
     let item = ident::Item {
         kind: ident::ItemKind::WitnessTransaction,
-        hash: e.item.hash,
+        hash: e.candidate.item.hash,
     };
     Sent {
-        entry: claiming::Entry { item, ..e },
+        entry: claiming::Entry {
+            candidate: requests::Candidate {
+                item,
+                ..e.candidate
+            },
+            ..e
+        },
         known: asked,
     }
 }

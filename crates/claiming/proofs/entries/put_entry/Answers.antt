@@ -8,6 +8,6 @@ use Rattle.claiming.proofs.entries.put_entry.Goals as goal
 pub returns : goal.returns
 returns c = entry-put _ c.args.n _
     (entry_of c.args.e)
-    c.requires (c.from.ensures ∙ one_byte c.args.e.preferred)
+    c.requires (c.from.ensures ∙ one_byte c.args.e.candidate.preferred)
     c.put_key.ensures c.put_item.ensures
     c.put_three.ensures
