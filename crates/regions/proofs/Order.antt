@@ -141,13 +141,6 @@ module _ (a b : Key) where
   pub by_hash : {r : Bool} → kind_number a.kind ≡ kind_number b.kind → r ≡ ltb (quad_number a.hash) (quad_number b.hash) → r ≡ ltb (key_number a) (key_number b)
   by_hash e f = f ∙ rw (key-number a, key-number b, e) (same_above (quad_number a.hash) (quad_number b.hash) _)
 
--- the test of the upper bound
-pub not_after : (x y : ℕ) {r : Bool} → r ≡ ltb x y → not r ≡ ltb y (x + 1)
-not_after x y e = elim (test (ltb x y)) [
-  | inl t ↦ rw (e, t) (sym (le-ltb y (x + 1) (omega (arith, ltb-true x y t))))
-  | inr t ↦ rw (e, t) (sym (lt-ltb y (x + 1) (omega (arith, ltb-false x y t))))
-]
-
 -- ---- binary search
 
 -- x has its place among the n keys ks, if they are in order, from lo to hi
@@ -227,9 +220,6 @@ pub record Passing (ks : List ℕ) (from to x i : ℕ) : Type 0 where
   pub most : i ≤ to
   pub none : (j : ℕ) → from ≤ j → j < i → get_or ks j 0 ≡ x → ⊥
 
-pub passing_start : (ks : List ℕ) (from to x : ℕ) → from ≤ to → Passing ks from to x from
-passing_start ks from to x h = record { least = omega arith; most = h; none = λ j a b. absurd (omega arith) }
-
 module _ {ks : List ℕ} {from to x i : ℕ} (p : Passing ks from to x i) where
   pub passing_more : i < to → (get_or ks i 0 ≡ x → ⊥) → Passing ks from to x (i + 1)
   passing_more h n = record {
@@ -244,9 +234,6 @@ module _ {ks : List ℕ} {from to x i : ℕ} (p : Passing ks from to x i) where
 
   pub passing_found : get_or ks i 0 ≡ x → First ks from to x i
   passing_found e = record { least = p.least; most = p.most; none = p.none; found = λ _. e }
-
-  pub passing_end : to ≤ i → First ks from to x i
-  passing_end h = record { least = p.least; most = p.most; none = p.none; found = λ l. absurd (omega arith) }
 
 -- ---- a guess that is tested
 

@@ -6,13 +6,8 @@ use native.Mathlib.Nat.{mul_comm}
 use native.Mathlib.Omega.{arith}
 use lib.ListN.{length, take, drop, length-append, length-drop, take-append-drop}
 use lib.Seq.{take-take, length-take-le}
-use Rattle.words.specs.Words.{down}
 use Rattle.regions.specs.Regions.{each, padded, remove_range, shut, RangeRemoved}
 use Rattle.regions.proofs.Regions.{length-padded, padded-shut, each_append, length_each}
-
--- a move by a number that is written in another way
-pub down_as : (w : List ℕ) {w' : List ℕ} (m : ℕ) {e d : ℕ} → e ≡ d → w' ≡ down e w 0 m → w' ≡ down d w 0 m
-down_as w m p q = q ∙ ap (λ (j : ℕ). down j w 0 m) p
 
 -- a list as what stands before a range, in it, and behind it
 pub range_split : {A : Type 0} (l : List A) (from to : ℕ) → from ≤ to → l ≡ take from l ++ (drop from (take to l) ++ drop to l)

@@ -7,7 +7,7 @@ use mathlib.Core.List.{List, [], ◌∷◌, ◌++◌, append-nil}
 use native.Mathlib.Nat.{add-zero, mul_comm, mul-le-mul_left}
 use native.Mathlib.Numerals.{add-one}
 use native.Mathlib.Omega.{arith}
-use lib.ListN.{length, take, drop, replicate, get_or, set, length-set, length-drop}
+use lib.ListN.{length, take, drop, replicate, get_or, set, length-set}
 use lib.Seq.{length-take-le, take_at, take_all, take-suc, drop-drop, get_or-drop, take-suc-set, drop-set-lt, set-get_or}
 use Rattle.words.specs.Words.{words}
 use Rattle.words.proofs.Words.{length-words}
@@ -89,12 +89,6 @@ module _ {A : Type 0} {k : ℕ} {enc : A → List ℕ} (laws : RecordLaws k enc)
         let b : k * (i + 1) ≤ k * n = mul-le-mul_left k (omega arith) in
         let c : k * (i + 1) ≡ i * k + k = omega arith in
         rw e (omega arith)
-
-    pub part-long : length (take ((i * size + size) * 8 - i * size * 8) (drop (i * size * 8) s)) ≡ 8 * k
-    part-long =
-        let z : (i * size + size) * 8 - i * size * 8 ≤ length (drop (i * size * 8) s) = omega (arith, part-inside, length-drop (i * size * 8) s) in
-        let q : (i * size + size) * 8 - i * size * 8 ≡ 8 * k = omega (arith, e) in
-        length-take-le ((i * size + size) * 8 - i * size * 8) (drop (i * size * 8) s) z ∙ q
 
     pub part-is : (L : ℕ) (xs : List A) (d : A) → i < length xs → Holds k enc L xs (words s) → words (take ((i * size + size) * 8 - i * size * 8) (drop (i * size * 8) s)) ≡ enc (get_or xs i d)
     part-is L xs d m h =

@@ -20,10 +20,6 @@ use Rattle.regions.specs.Rows.{row_size, conn_size, quad_words, read_quad, row_w
 
 -- ---- four words
 
-pub quad_read : (w : List ℕ) (a : ℕ) {w0 w1 w2 w3 : ℕ} → w0 ≡ get_or w a 0 → w1 ≡ get_or w (a + 1) 0 → w2 ≡ get_or w (a + 2) 0 → w3 ≡ get_or w (a + 3) 0
-    → ◌≡◌ {A = Quad} (record { w0 = w0; w1 = w1; w2 = w2; w3 = w3 }) (read_quad (drop a w))
-quad_read w a p0 p1 p2 p3 = simp (get_or-drop, add-zero, p0, p1, p2, p3)
-
 pub quad_written : (w : List ℕ) {w1 w2 w3 w4 : List ℕ} (a : ℕ) (q : Quad) → a + 4 ≤ length w
     → w1 ≡ set w a q.w0 → w2 ≡ set w1 (a + 1) q.w1 → w3 ≡ set w2 (a + 2) q.w2 → w4 ≡ set w3 (a + 3) q.w3 → w4 ≡ splice w a (quad_words q)
 unfolding splice

@@ -1,14 +1,8 @@
 -- `regions::lower_bound` meets its contract.
 use native.Mathlib.Omega.{arith}
 use Prim.Native.Nat.{◌+◌, ◌-◌, ◌/◌}
-use Rattle.regions.proofs.Order.{bisect_start, bisect_up, bisect_down, bisect_end}
+use Rattle.regions.proofs.Order.{bisect_up, bisect_down, bisect_end}
 use Rattle.regions.proofs.lower_bound.Goals as goal
-
-pub loop-lo-init : goal.loop-lo-init
-loop-lo-init g c = bisect_start _ _
-
-pub falls_short-requires : goal.falls_short-requires
-falls_short-requires g c = c.requires _ (omega arith)
 
 pub loop-lo-preserved-then-falls_short : goal.loop-lo-preserved-then-falls_short
 loop-lo-preserved-then-falls_short g c =

@@ -4,15 +4,12 @@ use mathlib.Core.Path.{refl, ap, ◌∙◌}
 use native.Mathlib.Omega.{arith}
 use lib.ListN.{length, get_or}
 use Rattle.words.specs.Words.{words}
-use Rattle.regions.proofs.Retaining.{part-inside, part-is, retaining_same, retaining_none, retaining_moved, retaining_stays, retaining_goes, retaining_end}
+use Rattle.regions.proofs.Retaining.{part-is, retaining_same, retaining_none, retaining_moved, retaining_stays, retaining_goes, retaining_end}
 use Rattle.regions.proofs.keep.retain.Goals.{then-stays, then-m-i, else-m-i, else-stays}
 use Rattle.regions.proofs.keep.retain.Goals as goal
 
 pub loop-i-init : goal.loop-i-init
 loop-i-init g c = (retaining_none _ _, refl)
-
-pub slice_bounds-stays-end : goal.slice_bounds-stays-end
-slice_bounds-stays-end g c = part-inside g.R.Record.laws c.loop-i.s c.loop-i.i c.args.n c.WORDS-size.ensures c.loop-i-test.true (omega (arith, c.loop-i.invariant.1, c.requires.room))
 
 pub loop-i-preserved : goal.loop-i-preserved
 loop-i-preserved g c =

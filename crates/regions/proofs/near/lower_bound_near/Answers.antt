@@ -3,9 +3,6 @@ use native.Mathlib.Omega.{arith}
 use Rattle.regions.proofs.Order.{bound_met, bound_last}
 use Rattle.regions.proofs.near.lower_bound_near.Goals as goal
 
-pub falls_short-requires : goal.falls_short-requires
-falls_short-requires g c = c.requires _ (omega arith)
-
 pub returns-then-guess-n : goal.returns-then-guess-n
 returns-then-guess-n g c = bound_last c.args.guess (omega arith) (rw c.if-not-falls_short.false at c.falls_short.ensures) c.if-guess-n.true
 
