@@ -4,7 +4,7 @@ use mathlib.Core.Path.{◌≡◌}
 use Rattle.words.specs.Words.{words}
 use Rattle.regions.specs.Rows.{row_size, read_row}
 use Rattle.sound_rows.specs.Rows.{RowPlain, Follows}
-use Rattle.sound_rows.proofs.Decide.{walk_start, walk_turn, walk_stop, walk_end, passed, failed}
+use Rattle.sound_rows.proofs.Decide.{walk_turn, walk_stop, walk_end, passed, failed}
 use Rattle.sound_rows.proofs.Ranges.{row-typed}
 use Rattle.sound_rows.proofs.Rows.{RowStep, row_fits, row_plain, rows_iff, rows_none}
 use Rattle.sound_rows.proofs.candidate.rows_fit.Goals as goal
@@ -13,9 +13,6 @@ pub returns-then-rows-eq0 : goal.returns-then-rows-eq0
 returns-then-rows-eq0 c =
     let e : c.args.rows.count ≡ 0 = omega arith in
     rw e (rows_none (words c.args.rows.bytes.now))
-
-pub loop-i-init : goal.loop-i-init
-loop-i-init c = (omega arith, walk_start RowStep row_size read_row c.args.rows.count (words c.args.rows.bytes.now) c.get-p.result)
 
 pub returns-then-not-row_fits : goal.returns-then-not-row_fits
 returns-then-not-row_fits c =

@@ -3,12 +3,8 @@ use native.Mathlib.Omega.{arith}
 use Prim.Native.Nat.{◌+◌}
 use Rattle.words.specs.Words.{words}
 use Rattle.sound_rows.specs.Parts.{rows_of}
-use Rattle.sound_rows.proofs.Decide.{iff_self}
 use Rattle.sound_rows.proofs.Groups.{apart_turn, apart-later, apart-others, apart_end, first_none, first_some}
 use Rattle.sound_rows.proofs.group.apart.Goals as goal
-
-pub loop-k-init : goal.loop-k-init
-loop-k-init c = (omega arith, search rules, iff_self)
 
 pub returns-then-find_conn_in-mine : goal.returns-then-find_conn_in-mine
 returns-then-find_conn_in-mine c = apart-later (words c.args.mine.rows.bytes.now) (rows_of c.args.others) c.loop-k.k

@@ -3,14 +3,9 @@ use native.Mathlib.Nat.{le_refl}
 use Rattle.words.specs.Words.{words, Decides}
 use Rattle.sound_rows.specs.Groups.{Apart}
 use Rattle.sound_rows.specs.Parts.{rows_of}
-use Rattle.sound_rows.proofs.Decide.{passed, failed, decides_iff}
+use Rattle.sound_rows.proofs.Decide.{passed, decides_iff}
 use Rattle.sound_rows.proofs.Groups.{in_none}
 use Rattle.sound_rows.proofs.group.conns_once.Goals as goal
-
-pub returns-then-not-apart : goal.returns-then-not-apart
-returns-then-not-apart c =
-    let x = c.args in
-    λ o. failed (Apart (rows_of x.b) (rows_of x.a)) c.apart.result c.if-not-apart.true-raw c.apart.ensures o.0
 
 pub returns : goal.returns
 returns c =

@@ -1,12 +1,10 @@
 use borrow.Author.Rules.{rules}
 use native.Mathlib.Omega.{arith}
-use Prim.Native.Nat.{ℕ}
-use lib.ListN.{length-replicate}
 use Rattle.words.specs.Words.{words, Decides}
 use Rattle.regions.specs.Rows.{quad_number}
-use Rattle.sound_rows.specs.Groups.{rows_in, Run, GroupFits, conn_slots}
+use Rattle.sound_rows.specs.Groups.{rows_in, Run, GroupFits}
 use Rattle.sound_rows.proofs.Decide.{passed, failed}
-use Rattle.sound_rows.proofs.Groups.{group_off, group_some, off_turn, off_stop, halves, groups_end}
+use Rattle.sound_rows.proofs.Groups.{group_off, off_turn, off_stop, halves, groups_end}
 use Rattle.sound_rows.proofs.Halves.{txid_level, wtxid_level}
 use Rattle.sound_rows.proofs.group.groups_fit.Goals as goal
 
@@ -36,20 +34,6 @@ returns-then-not-group_fits c =
     λ s. off_stop (c.loop-i.invariant.3 s)
     (group_off w i m j n h a b (omega arith) (omega arith) (txid_level n w s m c.seek_row-m.ensures) (wtxid_level n w s m c.seek_row-m.ensures) c.least_hash-h.ensures left right)
     (failed G c.group_fits.result c.if-not-group_fits.true-raw fits)
-
-pub loop-i-smaller : goal.loop-i-smaller
-loop-i-smaller c =
-    let w = words c.args.rows.bytes.now in
-    let n = c.args.rows.count in
-    let m = c.seek_row-m.result in
-    let i = c.loop-i.i in
-    let j = c.loop-i.j in
-    let a = c.run_end-a.result in
-    let b = c.run_end-b.result in
-    let h = quad_number c.least_hash-h.result in
-    let left : Run w i m h a = rw (c.new.ensures.0, c.new.ensures.1, c.new.ensures.2) at c.run_end-a.ensures in
-    let right : Run w j n h b = rw (c.new-in-loop-i.ensures.0, c.new-in-loop-i.ensures.1, c.new-in-loop-i.ensures.2) at c.run_end-b.ensures in
-    omega (arith, group_some w i m j n h a b c.least_hash-h.ensures left right)
 
 pub loop-i-preserved : goal.loop-i-preserved
 loop-i-preserved c =

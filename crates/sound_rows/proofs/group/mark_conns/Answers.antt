@@ -1,6 +1,5 @@
 use native.Mathlib.Omega.{arith}
-use mathlib.Core.Path.{◌≡◌, refl, ◌∙◌}
-use lib.ListN.{length-set}
+use mathlib.Core.Path.{refl}
 use Rattle.words.specs.Words.{words}
 use Rattle.sound_rows.proofs.ConnMarks.{marks_none, marks_turn}
 use Rattle.sound_rows.proofs.group.mark_conns.Goals as goal
@@ -19,8 +18,3 @@ loop-k-preserved c =
       marks_turn (words a.part.rows.bytes.now) l.k a.part.to a.mark a.slots.now l.slots c.get-r.result (omega arith) l.invariant.1
           c.get-r.ensures.words_are refl (omega arith) c.if-slots-x.false l.invariant.2,
     )
-
-pub returns : goal.returns
-returns c =
-    let e : c.loop-k.k ≡ c.args.part.from = omega arith in
-    λ others m. let d = (rw e at c.loop-k.invariant.2) others m in (d.0, d.2)

@@ -1,6 +1,4 @@
-use mathlib.Core.Path.{sym, ◌∙◌}
 use mathlib.Core.List.{[]}
-use Rattle.machine.proofs.Tests.{never}
 use Rattle.sound_rows.specs.Parts.{rows_of}
 use Rattle.sound_rows.proofs.ConnMarks.{marked-nil}
 use Rattle.sound_rows.proofs.group.marked_once.Goals as goal
@@ -10,6 +8,3 @@ returns-then-mark_conns c =
     let a = c.args in
     let d = (rw c.if-mark_conns.true at c.mark_conns.ensures) [] (marked-nil a.mark a.slots.now) in
     λ f. (((rw f at c.mark_conns-then-mark_conns.ensures) (rows_of a.b) d.1).0, d.0)
-
-pub returns-else-mark_conns : goal.returns-else-mark_conns
-returns-else-mark_conns c = λ e. never (sym c.if-mark_conns.false ∙ e)
