@@ -1,12 +1,11 @@
 -- Tests, and walks along the records of a region that stop where a test fails.
 use Prim.Native.Nat.{ℕ, suc, ◌+◌, ◌-◌, ◌*◌, ◌≤◌, ◌<◌}
 use mathlib.Core.Path.{◌≡◌, refl, sym}
-use mathlib.Core.Logic.{◌⊎◌, inl, inr}
-use mathlib.Core.Bool.{Bool, true, false, not, ◌&&◌, ◌||◌}
-use borrow.Author.Tests.{not-true, not-false, eqb-true, eqb-false, ltb-true, ltb-false}
+use mathlib.Core.Bool.{Bool, true, false, not, ◌&&◌}
+use borrow.Author.Tests.{not-true, not-false, ltb-true, ltb-false}
 use mathlib.Core.List.{List, [], ◌∷◌}
 use native.Mathlib.Omega.{arith}
-use lib.Dec.{eqb, ltb}
+use lib.Dec.{ltb}
 use lib.ListN.{take, drop}
 use lib.Seq.{drop-drop}
 use Rattle.words.specs.Words.{recs, Decides}
@@ -34,30 +33,10 @@ pub test-decides : {P : Type 0} (b : Bool) → Test b P → Decides b P
 test-decides true t = t.holds refl
 test-decides false t = t.fails refl
 
-pub test_iff : {b : Bool} {P Q : Type 0} → Test b P → Iff P Q → Test b Q
-test_iff t i = record { holds = λ e. i.to (t.holds e); fails = λ e q. t.fails e (i.from q) }
-
 pub test_and : {P Q : Type 0} (a b : Bool) → Test a P → Test b Q → Test (a && b) (P × Q)
 test_and true true p q = record { holds = λ _. (p.holds refl, q.holds refl); fails = λ e. never (sym e) }
 test_and true false p q = record { holds = λ e. never e; fails = λ _ z. q.fails refl z.1 }
 test_and false b p q = record { holds = λ e. never e; fails = λ _ z. p.fails refl z.0 }
-
-pub test_or : {P Q : Type 0} (a b : Bool) → Test a P → Test b Q → Test (a || b) (P ⊎ Q)
-test_or true b p q = record { holds = λ _. inl (p.holds refl); fails = λ e. never (sym e) }
-test_or false true p q = record { holds = λ _. inr (q.holds refl); fails = λ e. never (sym e) }
-test_or false false p q = record {
-  holds = λ e. never e;
-  fails = λ _ z. elim z [
-    | inl x ↦ p.fails refl x
-    | inr x ↦ q.fails refl x
-  ];
-}
-
-pub test_same : (x y : ℕ) → Test (eqb x y) (x ≡ y)
-test_same x y = record { holds = eqb-true x y; fails = eqb-false x y }
-
-pub test_other : (x y : ℕ) → Test (not (eqb x y)) (x ≡ y → ⊥)
-test_other x y = record { holds = λ e. eqb-false x y (not-true (eqb x y) e); fails = λ e n. n (eqb-true x y (not-false (eqb x y) e)) }
 
 pub test_less : (x y : ℕ) → Test (ltb x y) (x < y)
 test_less x y = record { holds = ltb-true x y; fails = λ e h. absurd (omega (arith, ltb-false x y e)) }
@@ -101,9 +80,6 @@ rest_none k f n i w h = let e : n - i ≡ 0 = omega arith in rw e
 module _ {A : Type 0} (R : A → A → Type 0) (k : ℕ) (f : List ℕ → A) (n : ℕ) (w : List ℕ) where
   abbrev pub Walk : Type 0 → A → ℕ → Type 0
   Walk X p i = Iff X (Chain R p (rest k f n i w))
-
-  pub walk_start : (p : A) → Walk (Chain R p (recs k f n w)) p 0
-  walk_start p = rw rest_all iff_self
 
   pub walk_turn : {X : Type 0} (p : A) {a : A} (i : ℕ) → i < n → Walk X p i → a ≡ f (take k (drop (k * i) w)) → R p a → Walk X a (i + 1)
   unfolding Chain

@@ -138,19 +138,6 @@ module _ (w : List ℕ) (i m j n h a b : ℕ) {from from' : ℕ} (o : from ≤ i
         back' = run_back w from' j n h b o' l' v';
       }))
 
-pub group_some : (w : List ℕ) (i m j n h a b : ℕ) → Least w i m j n h → Run w i m h a → Run w j n h b → i + j < a + b
-group_some w i m j n h a b e v v' = elim e.some [
-  | inl p ↦ omega (arith, v.least, v'.least, moved i m a v p)
-  | inr p ↦ omega (arith, v.least, v'.least, moved j n b v' p)
-]
-  where
-    moved : (i m a : ℕ) → Run w i m h a → (i < m) × (hash_at (row_at w i) ≡ h) → i < a
-    moved i m a v p = elim (test (ltb i a)) [
-      | inl c ↦ ltb-true i a c
-      | inr c ↦ let z : a ≡ i = omega (arith, ltb-false i a c, v.least) in
-          absurd (omega (arith, p.1, rw z at (v.past (omega (arith, p.0)))))
-    ]
-
 -- ---- no connection twice
 
 apart_none : (x : ℕ) (others rs : List Row) → Apart others rs → 0 < rows_by x others → rows_by x rs ≡ 0
@@ -219,12 +206,6 @@ module _ (w : List ℕ) (x : ℕ) where
     first_some h z = omega (arith, some_by (r - from) from r to (omega (arith, f.least)) h (sym (conn-at to r h) ∙ f.found h))
 
 -- ---- turns of the loops
-
-pub upto_more : (w : List ℕ) (from i h : ℕ) → ((k : ℕ) → from ≤ k → k < i → hash_at (row_at w k) ≤ h) → hash_at (row_at w i) ≤ h → (k : ℕ) → from ≤ k → k < i + 1 → hash_at (row_at w k) ≤ h
-upto_more w from i h f l k a b = elim (test (eqb k i)) [
-  | inl e ↦ rw (eqb-true k i e) l
-  | inr e ↦ f k a (omega (arith, eqb-false k i e))
-]
 
 module _ {X : Type 0} (w : List ℕ) (others : List Row) (k a : ℕ) (h : k < a) {r : Row} (e : r ≡ row_at w k) (v : Iff X (Apart others (rows_in w k a))) where
   apart_next : Iff X ((rows_by r.conn (rows_in w (k + 1) a) ≡ 0) × (rows_by r.conn others ≡ 0) × Apart others (rows_in w (k + 1) a))

@@ -1,8 +1,8 @@
 -- A walk along the rows decides what FlatSound says of each row and of neighbours.
-use Prim.Native.Nat.{ℕ, ◌+◌, ◌*◌, ◌/◌, ◌%◌, ◌<◌}
+use Prim.Native.Nat.{ℕ, ◌+◌, ◌*◌, ◌<◌}
 use mathlib.Core.Path.{◌≡◌, refl, sym, ◌∙◌}
-use mathlib.Core.Logic.{◌⊎◌, inl, inr}
-use mathlib.Core.Bool.{Bool, true, false, not, ◌&&◌, ◌||◌}
+use mathlib.Core.Logic.{inl, inr}
+use mathlib.Core.Bool.{true, false}
 use mathlib.Core.List.{List, [], ◌∷◌}
 use native.Mathlib.Nat.{le_refl, le_antisymm, le_of_lt, lt_irrefl, not-le_of_lt}
 use native.Mathlib.Omega.{arith}
@@ -19,7 +19,7 @@ use Rattle.store.specs.Gather.{key_at}
 use Rattle.store.specs.FlatSound.{mark_bit, RowFits, Ascending, MarkedAs}
 use Rattle.store.proofs.Keys.{row_number}
 use Rattle.sound_rows.specs.Rows.{RowPlain, Follows, RowsSound}
-use Rattle.sound_rows.proofs.Decide.{Iff, test-decides, test_iff, test_and, test_or, test_same, test_other, test_less, Chain, rest, rest_all, rest_turn}
+use Rattle.sound_rows.proofs.Decide.{Iff, Chain, rest, rest_all, rest_turn}
 use Rattle.sound_rows.proofs.Ranges.{RowRanges}
 
 -- ---- the walk
@@ -67,47 +67,6 @@ rows-sound r rs = record {
       record { fit = (c.0.fit, b.fit); ascending = (omega arith, b.ascending); marks = b.marks };
   from = λ s. (record { fit = s.fit.0; follows = follows_self r }, chained r rs (record { fit = s.fit.1; ascending = s.ascending.1; marks = s.marks }));
 }
-
--- ---- a row by itself, tested without a branch
-
-abbrev Parts : Row → Type 0
-Parts r = (((r.conn ≡ 0 → ⊥) × (r.bits < 32)) × ((r.bits / 8 % 2 ≡ 1) ⊎ (r.deadline ≡ 0))) × ((r.bits % 2 ≡ 0) ⊎ ((r.bits / 2 % 2 ≡ 1 → ⊥) × (r.bits < 16)))
-
-parts-plain : (r : Row) → Parts r → RowPlain r
-parts-plain r f = record {
-  positive = omega (arith, f.0.0.0);
-  idle = λ e. elim f.0.1 [
-    | inl o ↦ absurd (omega (arith, e))
-    | inr d ↦ d
-  ];
-  bits = f.0.0.1;
-  plain = λ e. elim f.1 [
-    | inl o ↦ absurd (omega arith)
-    | inr d ↦ (omega (arith, d.0), omega (arith, d.1))
-  ];
-}
-
-plain-parts : (r : Row) → RowPlain r → Parts r
-plain-parts r f = (
-  (
-    (λ e. absurd (omega (arith, f.positive)), f.bits),
-    elim (test (eqb (r.bits / 8 % 2) 1)) [
-      | inl e ↦ inl (eqb-true (r.bits / 8 % 2) 1 e)
-      | inr e ↦ inr (f.idle (omega (arith, eqb-false (r.bits / 8 % 2) 1 e)))
-    ],
-  ),
-  elim (test (eqb (r.bits % 2) 0)) [
-    | inl e ↦ inl (eqb-true (r.bits % 2) 0 e)
-    | inr e ↦ let q = f.plain (omega (arith, eqb-false (r.bits % 2) 0 e)) in inr (λ z. absurd (omega (arith, q.0, z)), omega (arith, q.1, f.bits))
-  ],
-)
-
-pub row-decides : (r : Row) {o w t : Bool} → o ≡ eqb (r.bits / 8 % 2) 1 → w ≡ eqb (r.bits / 2 % 2) 1 → t ≡ eqb (r.bits % 2) 0
-    → Decides (((not (eqb r.conn 0) && ltb r.bits 32) && (o || eqb r.deadline 0)) && (t || (not w && ltb r.bits 16))) (RowPlain r)
-row-decides r owns witness txid =
-    let t = test_and _ _ (test_and _ _ (test_and _ _ (test_other r.conn 0) (test_less r.bits 32)) (test_or _ _ (test_same (r.bits / 8 % 2) 1) (test_same r.deadline 0)))
-    (test_or _ _ (test_same (r.bits % 2) 0) (test_and _ _ (test_other (r.bits / 2 % 2) 1) (test_less r.bits 16))) in
-    rw (owns, witness, txid) (test-decides _ (test_iff t (record { to = parts-plain r; from = plain-parts r })))
 
 -- the last test of a row behind another: keys that are neither less nor greater are equal
 pub follows-mark : (p r : Row) → ltb (key_number (key_of p)) (key_number (key_of r)) ≡ false → ltb (key_number (key_of r)) (key_number (key_of p)) ≡ false
