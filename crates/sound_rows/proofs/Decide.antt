@@ -81,6 +81,9 @@ module _ {A : Type 0} (R : A → A → Type 0) (k : ℕ) (f : List ℕ → A) (n
   abbrev pub Walk : Type 0 → A → ℕ → Type 0
   Walk X p i = Iff X (Chain R p (rest k f n i w))
 
+  pub walk_start : (p : A) → Walk (Chain R p (recs k f n w)) p 0
+  walk_start p = rw rest_all iff_self
+
   pub walk_turn : {X : Type 0} (p : A) {a : A} (i : ℕ) → i < n → Walk X p i → a ≡ f (take k (drop (k * i) w)) → R p a → Walk X a (i + 1)
   unfolding Chain
   walk_turn {X} p {a} i h v e r =
