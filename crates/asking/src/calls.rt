@@ -12,7 +12,8 @@ use crate::vocabulary::{HashesWord, KeysWord, NumberWord, Word, word_of};
 use reading::fields::{Parsed, number_at};
 use reading::forms::{Values, read_form, read_whole};
 
-// What a readable line asks for. A list stands behind the comma at an index: it is read where its call is carried out.
+// What a readable line asks for; an opening with its L and Q. A list stands behind the comma at an index: it is read where its call is carried out. (Values and index side by
+// side, no `Parsed` of one: who carries the call out hands the index to the list's reader and the values to the call.)
 #[derive(Clone, Copy)]
 pub enum Asked {
     Opening(u64, u64),
@@ -62,22 +63,19 @@ fn summing(line: &[u8], e: usize) -> Option<Asked>
     Some(Asked::Summing)
 }
 
-// The fields behind the comma at index e, in the form of the word.
+// The fields behind the comma at index e, in the form of the word. (A reader in each arm: a match from words to the texts of forms would be a table in the program's data, where
+// none may stand.)
 fn number_values(line: &[u8], e: usize, w: NumberWord) -> Option<Values>
     ensures { WholeRead line.now e (number_form w) result }
 {
     match w {
-        NumberWord::Announce => read_whole(line, e, b"cirpq"),
-        NumberWord::RequestParent => read_whole(line, e, b"cirpq"),
-        NumberWord::Failed => read_whole(line, e, b"kcn"),
+        NumberWord::Announce | NumberWord::RequestParent => read_whole(line, e, b"cirpq"),
+        NumberWord::Failed | NumberWord::FailedPackageInfo => read_whole(line, e, b"kcn"),
         NumberWord::Unclaim => read_whole(line, e, b"kc"),
         NumberWord::Forget => read_whole(line, e, b"k"),
-        NumberWord::ForgetKnown => read_whole(line, e, b"kn"),
-        NumberWord::Teardown => read_whole(line, e, b"n"),
-        NumberWord::FailedPackageInfo => read_whole(line, e, b"kcn"),
-        NumberWord::PackageInfoOwner => read_whole(line, e, b"kn"),
+        NumberWord::ForgetKnown | NumberWord::PackageInfoOwner => read_whole(line, e, b"kn"),
+        NumberWord::Teardown | NumberWord::PollGate => read_whole(line, e, b"n"),
         NumberWord::ResponseCompleted => read_whole(line, e, b"chmn"),
-        NumberWord::PollGate => read_whole(line, e, b"n"),
     }
 }
 
@@ -98,8 +96,7 @@ fn hashes_values(line: &[u8], e: usize, w: HashesWord) -> Option<Parsed<Values>>
         HashesWord::SolicitPackageInfo => read_form(line, e, b"chn"),
         HashesWord::ClaimPackage => read_form(line, e, b"chmn"),
         HashesWord::BeginPackageResolution => read_form(line, e, b"chmn"),
-        HashesWord::AnnounceParents => read_form(line, e, b"cn"),
-        HashesWord::FailedPackageClaims => read_form(line, e, b"cn"),
+        HashesWord::AnnounceParents | HashesWord::FailedPackageClaims => read_form(line, e, b"cn"),
         HashesWord::OwnersOf => read_form(line, e, b""),
     }
 }
