@@ -1,7 +1,7 @@
 -- Hashes given to a call: how many, each by its index, their range, and whether one occurred before.
 use Prim.Native.Nat.{ℕ, zero, suc, ◌+◌, ◌*◌, ◌/◌, ◌≤◌, ◌<◌}
 use mathlib.Core.Path.{◌≡◌, refl, sym, ap, ◌∙◌}
-use mathlib.Core.Bool.{Bool, true, ◌||◌}
+use mathlib.Core.Bool.{Bool, ◌||◌}
 use mathlib.Core.List.{List, [], ◌∷◌}
 use native.Mathlib.Numerals.{add-one}
 use native.Mathlib.Omega.{arith}
@@ -16,7 +16,6 @@ use Rattle.words.proofs.Digits.{number_below}
 use Rattle.words.proofs.Records.{length-recs, recs_at}
 use Rattle.machine.specs.Claim.{elem}
 use Rattle.machine.specs.Sound.{Hashes}
-use Rattle.machine.proofs.Tests.{or_true}
 use Rattle.lent_lists.specs.Lists.{hashes_in}
 
 pub length-hashes : (b : List ℕ) → length (hashes_in b) ≡ length b / hash_bytes
@@ -41,13 +40,6 @@ unfolding hashes_in
 hashes-fit b p = recs-fit (length b / hash_bytes) b (omega arith) p
 
 -- ---- among the first
-
-pub elem-met : (x : ℕ) (hs : List ℕ) (i j : ℕ) → j < i → i ≤ length hs → eqb (get_or hs j 0) x ≡ true → elem x (take i hs) ≡ true
-unfolding elem
-elem-met x [] i j h l e = absurd (omega arith)
-elem-met x (g ∷ hs) zero j h l e = absurd (omega arith)
-elem-met x (g ∷ hs) (suc i) zero h l e = rw e
-elem-met x (g ∷ hs) (suc i) (suc j) h l e = or_true (eqb g x) (elem x (take i hs)) (elem-met x hs i j (omega arith) (omega arith) e)
 
 -- the j-th is x
 abbrev pub is_at : ℕ → List ℕ → ℕ → Bool
