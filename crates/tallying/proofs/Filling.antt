@@ -91,11 +91,6 @@ module _ {b₀ b : List ℕ} {n i : ℕ} (k : Shown b₀) (p : Filling b₀ b n 
         subst (λ (xs : List Conn). Shows b₁ (with_conns xs f)) (at_end cs i (entry_of r) (many f h) ∙ sym a) (rw own at t (with_conns cs f) (p.filled f h));
   }
 
-  pub filling_done : i ≡ n → Turns b₀ b (λ f. with_conns (map entry_of f.rows) f)
-  filling_done e f h =
-      let z = sizes h in
-      subst (λ (rs : List Row). Shows b (with_conns (map entry_of rs) f)) (take_all i f.rows (omega (arith, z.rows, p.rows))) (p.filled f h)
-
 -- ---- both
 
 pub filled-shown : {b₀ b : List ℕ} → Shown b₀ → Turns b₀ b (λ f. with_conns (map entry_of f.rows) f) → Shown b

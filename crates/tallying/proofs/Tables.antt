@@ -20,7 +20,7 @@ use Rattle.store.proofs.Entries.{names-sorted, bump_found, bump-missing}
 use Rattle.store.proofs.Frame.{length-insert}
 use Rattle.store.proofs.Missing.{each_at}
 use Rattle.store.proofs.Tally.{fresh, more, Tallied}
-use Rattle.tallying.specs.Entries.{with_row, counted, Entries, Partly, Underway, EntryAt, Counts, Filled, Settled}
+use Rattle.tallying.specs.Entries.{with_row, counted, Entries, Partly, EntryAt, Settled}
 use Rattle.tallying.proofs.Counted.{Few, counted_next, counted_tallied, counted_few}
 use Rattle.tallying.proofs.Opening.{opened-entries}
 
@@ -160,24 +160,6 @@ pub collecting_none : (w : List ℕ) (n : ℕ) → Collecting w w n 0 0
 collecting_none w n = record { short = omega arith; most = omega arith; parts = λ L cs e l h. partly_none L cs h }
 
 module _ {w₀ w : List ℕ} {n m j : ℕ} (p : Collecting w₀ w n m j) where
-  pub collecting_more : Filled w₀ n → j < n → Underway w m j
-  collecting_more f l =
-      record {
-        capacity = f.capacity;
-        entries = f.entries;
-        more = omega (arith, f.long);
-        fits = omega (arith, f.long, f.fits);
-        partly = p.parts f.capacity f.entries f.long
-            f.fits f.holds;
-      }
-
-  pub collecting_next : {w₁ : List ℕ} {k : ℕ} → j < n → k ≤ j + 1 → Counts w w₁ m j k → Collecting w₀ w₁ n k (j + 1)
-  collecting_next {w₁} {k} l s c = record {
-    short = s;
-    most = omega arith;
-    parts = λ L cs e f h. let z : suc j ≡ j + 1 = omega arith in subst (λ (i : ℕ). Partly L cs w₁ k i) z (c L cs (omega arith) (omega arith) (p.parts L cs e f h));
-  }
-
   pub collecting_done : {w₁ : List ℕ} → j ≡ n → conn_size * n ≤ length w → w₁ ≡ splice w (m * conn_size) (replicate ((n - m) * conn_size) 0) → Settled w₀ w₁ n m
   unfolding conn_words
   collecting_done {w₁} e l q = record {
