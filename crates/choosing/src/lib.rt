@@ -2,8 +2,6 @@
 // connection below 100". And, where no candidate of a key is ready, the earliest later ready time among them (document 02, request c).
 //
 // The rows of a key are scanned from the last to the first, so that what has been found is the choice among the rows from here on.
-//
-// A row's bits are read as `regions::Row` says.
 #![tactic(auto, using(requests::proofs::Keeping::kept_shown))]
 
 ghost use Rattle.std.specs.Prelude.{◌≡◌, [], ◌-◌, ◌/◌, ◌%◌, ◌≤◌};

@@ -1,7 +1,5 @@
 // claim (document 01, "claim"): an entry of the checked list is taken if its hash is unowned and it is still, in every field, what
 // plan would choose for its hash.
-//
-// A row's bits are read as `regions::Row` says.
 #![tactic(auto)]
 
 ghost use Rattle.std.specs.Prelude.{◌≡◌, ◌/◌, ◌%◌};

@@ -173,7 +173,7 @@ enum Given<'a> {
     Items(&'a [u8]),
 }
 
-// How many entries a list has: a count of what it holds, no conversion of the list.
+// How many entries a list has.
 fn entries(given: Given) -> usize
     ensures { result ≡ length (entries_in given.entry) }
 {

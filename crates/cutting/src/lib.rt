@@ -1,4 +1,4 @@
-// The announcements of a connection that do not own their requests, under keys from .. to, are taken out of the store in one pass over
+// The announcements of a connection that do not own their requests, under keys from `from` to `to`, are taken out of the store in one pass over
 // the rows: one by one, each would move every row behind it.
 //
 // `cut_between` comes to the machine's cuts under these keys, one after the other in the order of keys.
@@ -15,7 +15,7 @@ ghost use Rattle.cutting.specs.Cuts.{between, cuts, row_in, row_key_in, stays, D
 
 use store::layout;
 
-// A connection, and the keys from .. to.
+// A connection, and the keys from `from` to `to`, both among them.
 #[derive(Clone, Copy)]
 pub struct Span {
     pub conn: u64,
@@ -23,7 +23,7 @@ pub struct Span {
     pub to: regions::Key,
 }
 
-// Whether the key k is one of from .. to. (By `key_less`, whose clause is of the keys' numbers, as this one's: a derived `<=` would need the law of both orders here.)
+// Whether the key k is one from `from` to `to`. (By `key_less`, whose clause is of the keys' numbers, as this one's: a derived `<=` would need the law of both orders here.)
 fn inside(k: regions::Key, from: regions::Key, to: regions::Key) -> bool
     ensures { result ≡ row_key_in from to k }
 {
@@ -87,7 +87,7 @@ fn count_less(s: &mut [u8], x: u64, d: u64)
     );
 }
 
-// The candidate of the connection n goes from every request under the keys from .. to that it does not own.
+// The candidate of the connection n goes from every request under the keys from `from` to `to` that it does not own.
 pub fn cut_between(s: &mut [u8], n: u64, from: ident::Key, to: ident::Key)
     requires { Kept s.old }
     ensures { Makes s.old s.new (λ t. Unit {0}) (cuts n (between (key_num from) (key_num to))) }

@@ -12,6 +12,8 @@ ghost use Rattle.machine.specs.Step.{key_answer};
 ghost use Rattle.lent_lists.specs.Lists.{hashes_in, key_in};
 ghost use Rattle.lent_lists.specs.Items.{item_kind_in, items_in, offers_in};
 
+use machine::limits::MAX_PARENTS;
+
 // ---- hashes in
 
 pub fn hashes(s: &[u8]) -> usize
@@ -34,7 +36,7 @@ pub fn same_hash(a: ident::Hash, b: ident::Hash) -> bool
     a == b
 }
 
-// Whether the i-th hash is one of those before it. (A loop, and no `any`: over indices that takes a closure with a contract of its own, longer than the loop.)
+// Whether the i-th hash is one of those before it.
 pub fn occurs_before(s: &[u8], i: usize) -> bool
     requires { i < length (hashes_in s.now) }
     ensures { result ≡ elem (get_or (hashes_in s.now) i 0) (take i (hashes_in s.now)) }
@@ -46,11 +48,11 @@ pub fn occurs_before(s: &[u8], i: usize) -> bool
 // ---- items in, and their priorities
 
 // Bytes of 100 hashes, the longest list that a call takes; of a key, and of 100 keys.
-pub const LIST: usize = 3_200;
+pub const LIST: usize = MAX_PARENTS * ident::HASH_BYTES;
 
 pub const KEY: usize = 40;
 
-pub const KEYS: usize = 4_000;
+pub const KEYS: usize = MAX_PARENTS * KEY;
 
 // Bytes of an item, and of a priority.
 pub const ITEM: usize = 40;

@@ -2,8 +2,6 @@
 //
 // One pass over the rows, from the last to the first. The rows of a key stand together: what they have come to is kept until the next key begins,
 // since a row further on may own the request.
-//
-// A row's bits are read as `regions::Row` says.
 #![tactic(auto, using(requests::proofs::Keeping::kept_shown, sweeping::proofs::Lent::kept_head))]
 
 ghost use Rattle.std.specs.Prelude.{ℕ, ◌≡◌, ◌+◌, ◌≤◌, ◌<◌, List, [], ◌∷◌};

@@ -2,7 +2,9 @@
 ghost use Rattle.std.specs.Prelude.{◌≡◌, ◌≤◌, ◌<◌, MatchOption};
 ghost use Rattle.machine.specs.Limits.{latest_clock};
 
-const LATEST: u64 = 18_446_744_073_709_491_615;
+use crate::limits::REQUEST_LIFETIME;
+
+const LATEST: u64 = u64::MAX - REQUEST_LIFETIME;
 
 #[derive(Clone, Copy)]
 pub struct Clock {

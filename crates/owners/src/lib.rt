@@ -2,8 +2,6 @@
 //
 // Rows ascend by key: first those of Txid keys, then those of Wtxid keys, and in each half by hash. Two indices go along the halves, from one hash of the list to the
 // next, so that every row up to the greatest hash is passed once, and behind it no more than the next one is looked at. A key is counted at its last row.
-//
-// A row's bits are read as `regions::Row` says.
 #![tactic(auto, using(requests::proofs::Keeping::kept_shown, sweeping::proofs::Lent::kept_head))]
 
 ghost use Rattle.std.specs.Prelude.{◌≡◌, true, ◌+◌, ◌*◌, ◌≤◌, length};

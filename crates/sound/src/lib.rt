@@ -2,8 +2,9 @@
 //
 // `sound` decides it in both directions: `true` if the bytes, as far as their need, write a sound state, `false` only if they write
 // none. Each part decides what FlatSound (crates/store) says of the records that one region holds: the rows (crates/sound_rows), the
-// connections (crates/sound_conns), the package places. A region is a slice whose word 0 is the region's first word; a `requires` says
-// only that the records in question lie within the slice. Each byte of the need is read once or a few times.
+// connections (crates/sound_conns), the package places. A region is a slice whose word 0 is the region's first word; that
+// the records in question lie within it is a fact of `Records`, and for places a `requires`. Each byte of the need is read once or a
+// few times.
 #![tactic(auto)]
 
 use machine::limits::{MAX_ALTERNATES, MAX_ANNOUNCEMENTS, MAX_PLACES};

@@ -1,5 +1,5 @@
-// The sound test's part on the candidates' rows: each decides what FlatSound (crates/store) says of the rows at the front of a region. A
-// `requires` says only that these rows lie within the slice.
+// The sound test's part on the candidates' rows: each decides what FlatSound (crates/store) says of the rows at the front of a region.
+// That these rows lie within the slice is a fact of `Records`.
 #![tactic(auto)]
 
 pub mod candidate; // candidate.rt: rows by themselves and neighbours

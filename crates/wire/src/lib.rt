@@ -132,7 +132,7 @@ pub fn read_payload(p: &[u8], answer: &mut [u8]) -> Result<u64, Refusal>
 
 // ---- items written
 
-// Whether the list has no other item of type 1, 0x40000001 or 5. (A `for`: an item is read by its index below the list's count, a need that `all` would want written at a closure.)
+// Whether the list has no other item of type 1, 0x40000001 or 5.
 fn all_plain(items: &[u8]) -> bool
     ensures { result ≡ all_plain (items_in items.now) }
 {
