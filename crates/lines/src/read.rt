@@ -119,12 +119,7 @@ impl Numeral for regions::Quad {
     ghost limit_in = { sixteen-top };
 
     fn zero() -> Self {
-        regions::Quad {
-            w0: 0,
-            w1: 0,
-            w2: 0,
-            w3: 0,
-        }
+        regions::Quad::ZERO
     }
 
     fn with_digit(self, digit: u64) -> Option<Self> {

@@ -43,6 +43,16 @@ pub struct Quad {
     pub w0: u64,
 }
 
+impl Quad {
+    // Where no hash is: a cursor's of no key, a combined one of no package. And the least, from which a search of a kind's rows begins.
+    pub const ZERO: Quad = Quad {
+        w3: 0,
+        w2: 0,
+        w1: 0,
+        w0: 0,
+    };
+}
+
 // What rows are in the order of: the kind, whose number is bit 0 of a row's bits, then the hash.
 #[derive(Clone, Copy, Debug, PartialEq, Eq, PartialOrd, Ord)]
 pub struct Key {

@@ -1,4 +1,6 @@
-// The records at the front of a region, as a value: its bytes, and how many there are.
+// The records at the front of a region, as a value: its bytes, and how many there are. (No `iter`: contracts speak of the i-th record, and of a
+// chain's items the clauses say only that calls of `next` gave them. The searches take slice and number: most callers have the lent bytes and a
+// word of the header.)
 ghost use Rattle.std.specs.Prelude.{◌≡◌, ◌*◌, ◌≤◌, ◌<◌, ⊤, length};
 ghost use Rattle.words.specs.Words.{words};
 ghost use Rattle.regions.specs.Regions.{Found};

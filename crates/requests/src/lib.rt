@@ -42,7 +42,8 @@ fn witness_bit(k: ident::ItemKind) -> u64
     u64::from(k == ident::ItemKind::WitnessTransaction)
 }
 
-// The row of a candidate that does not own its request.
+// The row of a candidate that does not own its request. (Its bits as a sum, whose terms name them: a function of a kind and four truth values
+// in a row would leave a call to say by their order alone which is which. What changes one bit, below, speaks of that one's number.)
 pub fn new_row(k: regions::Key, c: Candidate, mark: bool) -> regions::Row
     ensures { RowFor k c mark result }
 {

@@ -86,7 +86,8 @@ pub fn owners(part: Part) -> u64
 }
 
 // Marks the slots of the rows' connections, the last first, and whether no slot had the mark already. If none had, the connections are
-// distinct, and not among those that were marked before. (A loop: each turn changes the slots that the next one reads.)
+// distinct, and not among those that were marked before. (A loop: each turn changes the slots that the next one reads.
+// Slots and mark go apart, here and below: the mark is new for each hash, the slots are one array for all.)
 fn mark_conns(part: Part, slots: &mut [u64; SLOTS], mark: u64) -> bool
     ensures { Marking result (words part.entry.rows.bytes.now) part.entry.from part.entry.to mark slots.old slots.new }
 {
@@ -140,15 +141,9 @@ pub fn groups_fit(rows: Records<Row>, most: usize) -> bool
     ensures { RowsSound (recs row_size read_row rows.entry.count (words rows.entry.bytes.now))
         → Decides result (GroupsSound most (recs row_size read_row rows.entry.count (words rows.entry.bytes.now))) }
 {
-    let zero = Quad {
-        w0: 0,
-        w1: 0,
-        w2: 0,
-        w3: 0,
-    };
     let first = Key {
         kind: ident::Kind::Wtxid,
-        hash: zero,
+        hash: Quad::ZERO,
     };
     let n = rows.count;
     let m = regions::seek_row(rows.bytes, n, Bound::Included(first));

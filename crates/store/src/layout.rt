@@ -1,5 +1,6 @@
 // What stands where in the header of a store, and where behind it its rows, connections and places lie (docs/STORE.md). A part is a range and no slice:
-// some calls lend it to be read, others to be written.
+// some calls lend it to be read, others to be written. Each bound is written as its sum: a function of L and Q alone would have to ask that they are in
+// their limits, which `Shown` says here, and its clause would be the sum again.
 ghost use Rattle.store.specs.Shown.{Shown};
 ghost use Rattle.store.specs.Parts.{RowsPart, ConnsPart, PlacesPart};
 

@@ -8,7 +8,7 @@ ghost use Rattle.std.specs.Prelude.{◌≡◌, ◌+◌, ◌-◌, ◌*◌, ◌≤
 ghost use Rattle.std.proofs.Math.Seq.{slice};
 ghost use Rattle.words.specs.Words.{words, up, down, splice, Put, Decides};
 
-// The i-th word of s. (Compiles to one 8-byte load.)
+// The i-th word of s. (Compiles to one 8-byte load. A `first_chunk` would give an Option, whose None is no case here.)
 pub fn get(s: &[u8], i: usize) -> u64
     requires { 8 * i + 8 ≤ length s.now }
     ensures { result ≡ get_or (words s.now) i 0 }
