@@ -33,7 +33,7 @@ pub struct Guesses<'a> {
     ghost roomy: { mask + 1 + mask / 4 < length slots.now },
 }
 
-// Whether the i-th entry is x's.
+// Whether the i-th entry is x's. (tallying has the same test of a table that is being filled, with a clause of that.)
 fn is_entry(conns: Records<Conn>, i: usize, x: u64) -> bool
     ensures { Decides result ((i < conns.entry.count) × (get_or (names conns.entry.count (words conns.entry.bytes.now)) i 0 ≡ x)) }
 {
@@ -135,23 +135,14 @@ fn second_slot(x: u64, mask: u64) -> usize
         )
 }
 
-fn wide(x: u16) -> usize
-    ensures { result < 2 ^ 16 }
-{
-    x as usize
-}
-
 // Keeps for the entries from lo on where they are. (Of two that meet, the later.)
 fn fill_first(pass: Pass, guess: &mut [u16], mask: u64, way: Way)
     requires { (mask < 2 ^ 32) × (mask + 1 + mask / 4 < length guess.old) }
     ensures { length guess.new ≡ length guess.old }
 {
-    for i in pass.lo..pass.conns.count {
-        let j = i - pass.lo;
-        if j >= MANY {
-            return;
-        }
-        let at = slot(words::get(pass.conns.bytes, i * CONN), way, mask);
+    for j in 0..windowed(pass.conns.count - pass.lo) {
+        let x = words::get(pass.conns.bytes, (pass.lo + j) * CONN);
+        let at = slot(x, way, mask);
         guess[at] = j as u16;
     }
 }
@@ -162,7 +153,7 @@ fn give_second(guess: &mut [u16], mask: u64, way: Way, x: u64, j: usize) -> usiz
     ensures { (result ≤ 1) × (length guess.new ≡ length guess.old) }
 {
     let at = slot(x, way, mask);
-    if wide(guess[at]) == j {
+    if usize::from(guess[at]) == j {
         return 0;
     }
     let to = second_slot(x, mask);
@@ -176,12 +167,9 @@ fn fill_second(pass: Pass, guess: &mut [u16], mask: u64, way: Way) -> usize
     ensures { (result ≤ many) × (length guess.new ≡ length guess.old) }
 {
     let mut lost = 0;
-    for i in pass.lo..pass.conns.count {
-        let j = i - pass.lo;
-        if j >= MANY {
-            return lost;
-        }
-        lost += give_second(guess, mask, way, words::get(pass.conns.bytes, i * CONN), j);
+    for j in 0..windowed(pass.conns.count - pass.lo) {
+        let x = words::get(pass.conns.bytes, (pass.lo + j) * CONN);
+        lost += give_second(guess, mask, way, x, j);
     }
     lost
 }
@@ -209,12 +197,12 @@ pub fn find_entry(pass: Pass, x: u64, guesses: Guesses) -> usize
     ensures { Place (names pass.entry.conns.count (words pass.entry.conns.bytes.now)) pass.entry.conns.count x result }
 {
     let at = slot(x, guesses.way, guesses.mask);
-    let a = pass.lo + wide(guesses.slots[at]);
+    let a = pass.lo + usize::from(guesses.slots[at]);
     if is_entry(pass.conns, a, x) {
         return a;
     }
     let to = second_slot(x, guesses.mask);
-    let b = pass.lo + wide(guesses.slots[to]);
+    let b = pass.lo + usize::from(guesses.slots[to]);
     if is_entry(pass.conns, b, x) {
         return b;
     }

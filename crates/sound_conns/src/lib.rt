@@ -35,6 +35,11 @@ const MANY_MASK: u64 = 16383;
 
 const FEW_MASK: u64 = 2047;
 
+// Slots of both tables: the second has a fourth of the first's.
+const MANY_SLOTS: usize = 20_480;
+
+const FEW_SLOTS: usize = 2_560;
+
 // Whether the entry c is fit to stand right behind p. (No order or equality: three of its four tests are of c alone.)
 fn entry_fits(p: Conn, c: Conn) -> bool
     ensures { Decides result (EntryStep p c) }
@@ -90,7 +95,7 @@ fn charge(c: Conn) -> u32
     c.held as u32 + c.owned as u32 * HALF
 }
 
-// Gives the pass's entries their counters, as far as there are any.
+// Gives the pass's entries their counters, as far as there are any. (By the entry's index, of which `Within` speaks; its counter stands at j.)
 fn charge_all(pass: Pass, t: &mut [u32])
     requires { Each ConnFits (recs conn_size read_conn pass.conns.count (words pass.conns.bytes.now)) }
     ensures { Within (λ c j. Left [] c (get_or t.new j 0)) (recs conn_size read_conn pass.entry.conns.count (words pass.entry.conns.bytes.now)) pass.entry.lo (length t.old)
@@ -235,7 +240,7 @@ pub fn conns_fit(rows: Records<Row>, conns: Records<Conn>) -> bool
             done: 0,
             last: u64::MAX,
         };
-        return fits_with::<FEW, 2560>(rows, all, FEW_MASK);
+        return fits_with::<FEW, FEW_SLOTS>(rows, all, FEW_MASK);
     }
     let mut done = 0;
     for lo in (0..conns.count).step_by(MANY) {
@@ -246,7 +251,7 @@ pub fn conns_fit(rows: Records<Row>, conns: Records<Conn>) -> bool
             done,
             last,
         };
-        if !fits_with::<MANY, 20480>(rows, pass, MANY_MASK) {
+        if !fits_with::<MANY, MANY_SLOTS>(rows, pass, MANY_MASK) {
             return false;
         }
         done = last;
