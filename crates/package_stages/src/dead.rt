@@ -1,4 +1,4 @@
-// Places taken out in one pass: those whose stage is 0 go, the others keep their order.
+// Places taken out in one pass: the dead ones go, the others keep their order.
 ghost use Rattle.std.specs.Prelude.{◌≡◌, ◌*◌, length};
 ghost use Rattle.words.specs.Words.{words};
 ghost use Rattle.places.specs.Places.{Place, place_size, place_words};
@@ -20,7 +20,7 @@ pub fn drop_dead(s: &mut [u8])
         |p| -> bool
             requires { length p.now ≡ 8 * place_size }
             ensures { (x : Place) → words p.now ≡ place_words x → result ≡ live x }
-        { places::read_head(p, 0).stage > 0 },
+        { places::read_head(p, 0).stage != places::DEAD },
     );
     words::put(s, layout::HELD_PLACES, m as u64);
 }

@@ -172,7 +172,7 @@ pub fn request_at(s: &[u8], k: ident::Key) -> Request
     }
 }
 
-// ---- what the i-th place holds
+// ---- what the i-th place holds (parents and wtxids in pairs of functions, for the reason that stands in flat.rt)
 
 // How many parents its request has.
 pub fn parents(s: &[u8], i: usize) -> usize
