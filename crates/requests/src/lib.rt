@@ -214,7 +214,8 @@ pub fn adopt(s: &mut [u8], k: ident::Key, c: Candidate, same: bool)
     }
 }
 
-// ---- the owner
+// ---- the owner (each of `own`, `disown` and, above, `adopt` finds its row and stores it changed: one function over a closure of the row would say, in a
+// law of three lines, what these three lines do)
 
 // The row of who comes to own its request, and of who ceases to. (Here the bit is changed, and its number says by how much.)
 fn owned_row(r: regions::Row, deadline: u64) -> regions::Row

@@ -45,13 +45,7 @@ fn cursor_fits(tag: u64, hash: regions::Quad) -> bool
     ensures { Decides result (CursorPlain tag (quad_number hash)) }
 {
     if tag == 0 {
-        let zero = regions::Quad {
-            w0: 0,
-            w1: 0,
-            w2: 0,
-            w3: 0,
-        };
-        return same_hash(hash, zero);
+        return same_hash(hash, regions::Quad::ZERO);
     }
     tag <= 2
 }

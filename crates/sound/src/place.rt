@@ -19,7 +19,7 @@ use regions::Row;
 use regions::listed::Records;
 
 // Slots in which `distinct` marks hashes, and a factor that spreads these.
-const SLOTS: u64 = 4096;
+const SLOTS: usize = 4096;
 
 const SPREAD: u64 = 0x1E37_79B1;
 
@@ -58,15 +58,15 @@ fn slot(h: regions::Quad) -> usize
 {
     let a = fold(h);
     let b = a % 0x1_0000_0000 + a / 0x1_0000_0000;
-    (b * SPREAD / 0x10_0000 % SLOTS) as usize
+    (b * SPREAD / 0x10_0000 % SLOTS as u64) as usize
 }
 
 // Whether the n hashes of the list that starts at the word a are distinct. The last comes first; a hash is compared with others only
 // if its slot has the mark already. Slots may have any content before: the mark should be new to them, else all are compared. (A loop: each
 // turn changes the slots that the next one reads.)
-fn distinct(s: &[u8], a: usize, n: usize, slots: &mut [u16], mark: u16) -> bool
-    requires { (8 * (a + 4 * n) ≤ length s.now) × (length slots.old ≡ slot_count) }
-    ensures { Decides result (NoRepeat (hashes_in (words s.now) a 0 n)) × (length slots.new ≡ slot_count) }
+fn distinct(s: &[u8], a: usize, n: usize, slots: &mut [u16; SLOTS], mark: u16) -> bool
+    requires { 8 * (a + 4 * n) ≤ length s.now }
+    ensures { Decides result (NoRepeat (hashes_in (words s.now) a 0 n)) }
 {
     for k in (0..n).rev() {
         let h = regions::read_quad(s, a + k * 4);
@@ -87,13 +87,7 @@ fn stage_fits(stage: u64, combined: regions::Quad, n: u64) -> bool
         if n != 0 {
             return false;
         }
-        let zero = regions::Quad {
-            w0: 0,
-            w1: 0,
-            w2: 0,
-            w3: 0,
-        };
-        return same_hash(combined, zero);
+        return same_hash(combined, regions::Quad::ZERO);
     }
     if stage == DEAD {
         return false;
@@ -122,7 +116,7 @@ fn padded(p: &[u8], m: usize, n: usize) -> bool
 }
 
 // Whether the words of one place write it out, and it is fit. The rows of its key are guessed to begin at the i-th.
-fn place_fits(p: &[u8], rows: Records<Row>, slots: &mut [u16; 4096], mark: u16, i: usize) -> bool
+fn place_fits(p: &[u8], rows: Records<Row>, slots: &mut [u16; SLOTS], mark: u16, i: usize) -> bool
     requires { length p.now ≡ 8 * place_size }
     ensures { RowsSound (recs row_size read_row rows.entry.count (words rows.entry.bytes.now))
         → Decides result (PlaceSound (recs row_size read_row rows.entry.count (words rows.entry.bytes.now)) (words p.now)) }
@@ -167,7 +161,7 @@ pub fn places_fit(s: &[u8], q: usize, rows: Records<Row>) -> bool
     ensures { RowsSound (recs row_size read_row rows.entry.count (words rows.entry.bytes.now))
         → Decides result (PlacesSound (recs row_size read_row rows.entry.count (words rows.entry.bytes.now)) q (words s.now)) }
 {
-    let mut slots = [0; 4096];
+    let mut slots = [0; SLOTS];
     let mut at = 0;
     for i in 0..q {
         let a = i * PLACE;

@@ -22,6 +22,7 @@ fn count(r: &mut [u8], m: usize, j: usize) -> usize
     ensures { (result ≤ j + 1) × Counts (words r.old) (words r.new) m j result }
 {
     let c = regions::read::<Conn>(r, j);
+    // an entry of one row owns none or one
     let o = c.owned % 2;
     let p = regions::seek_conn(r, m, c.conn);
     if is_entry(Records::new(r, m), p, c.conn) {

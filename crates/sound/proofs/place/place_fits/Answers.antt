@@ -70,7 +70,7 @@ returns-then-not-distinct c =
     c.type_inv.p) in
     λ _. refuse_repeat rs v l b c.get-parents.ensures
     (failed (NoRepeat (hashes_in v 411 0 c.get-parents.result)) c.distinct.result c.if-not-distinct.true-raw
-    c.distinct.ensures.0)
+    c.distinct.ensures)
 
 pub returns : goal.returns
 returns c =
@@ -99,4 +99,4 @@ returns c =
     c.get-parents.result) c.padded.result
     c.if-not-padded.false-raw c.padded.ensures)
     (passed (NoRepeat (hashes_in v 411 0 c.get-parents.result))
-    c.distinct.result c.if-not-distinct.false-raw c.distinct.ensures.0) (c.is_owned.ensures s)
+    c.distinct.result c.if-not-distinct.false-raw c.distinct.ensures) (c.is_owned.ensures s)
