@@ -70,13 +70,7 @@ fn words_of(c: Option<ident::Key>) -> (u64, regions::Quad)
     ensures { result.0 ∷ quad_words result.1 ≡ cursor_words (maybe_key_num c) }
 {
     let Some(k) = c else {
-        let none = regions::Quad {
-            w0: 0,
-            w1: 0,
-            w2: 0,
-            w3: 0,
-        };
-        return (0, none);
+        return (0, regions::Quad::ZERO);
     };
     let w = regions::Key::from(k);
     (u64::from(w.kind) + 1, w.hash)
@@ -164,7 +158,7 @@ pub fn gate(s: &mut [u8], clock: Clock) -> bool
     due
 }
 
-// The known cursor of a store becomes `last`.
+// The known cursor of a store becomes `last`. (All three are loaded and saved: so the change is `set_known`'s, whose clause says it.)
 pub fn move_known(s: &mut [u8], last: Option<ident::Key>)
     requires { 8 * head_size ≤ length s.old }
     ensures { KnownMoved s.old s.new (maybe_key_num last) }
