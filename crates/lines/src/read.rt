@@ -182,6 +182,7 @@ pub fn boolean(f: &[u8]) -> Option<bool>
     }
 }
 
+// A kind's letter is of the texts, here and below: no TryFrom of ident, whose kinds have numbers.
 fn kind(c: u8) -> Option<ident::Kind>
     ensures { value_in (λ k. k) result ≡ kind_of c }
 {

@@ -60,6 +60,7 @@ fn matching(p: &[u8], n: usize, at: usize) -> Option<(usize, usize)>
 }
 
 // A first byte of 254 or 255 begins a count above 50,000, or one that is not in its shortest form.
+// (By length and index, as the laws of a count's bytes go: patterns of the slice would be the same tests.)
 fn count_of(p: &[u8]) -> Option<(usize, usize)>
     ensures { Counted p.now result }
 {
