@@ -6,7 +6,7 @@ use mathlib.Core.Logic.{◌⊎◌, inl, inr}
 use mathlib.Core.List.{List, [], ◌∷◌}
 use native.Mathlib.Omega.{arith}
 use lib.Dec.{eqb}
-use lib.ListN.{length, set, replicate}
+use lib.ListN.{length, set}
 use borrow.Author.Tests.{eqb-true, eqb-false, ne_eqb}
 use Rattle.std.specs.Prelude.{if◌then◌else◌}
 use Rattle.machine.specs.Table.{one}
@@ -112,8 +112,3 @@ pub length-lowered : (ks : List ℕ) → length (lowered ks) ≡ length ks
 unfolding lowered
 length-lowered [] = refl
 length-lowered (c ∷ ks) = ap suc (length-lowered ks)
-
-pub sum-zeros : (k : ℕ) → sum (replicate k 0) ≡ 0
-unfolding sum
-sum-zeros zero = refl
-sum-zeros (suc k) = omega (arith, sum-zeros k)

@@ -7,35 +7,109 @@ use mathlib.Core.List.{List, [], ◌∷◌}
 use native.Mathlib.Numerals.{add-one}
 use native.Mathlib.Omega.{arith}
 use lib.Dec.{eqb, ltb, leb}
-use lib.ListN.{length, get_or, set}
+use lib.ListN.{length, get_or, set, take, replicate}
+use lib.Seq.{take_all}
 use borrow.Author.Tests.{lt-ltb, le-ltb, ltb-true, ltb-false}
 use Rattle.std.specs.Prelude.{if◌then◌else◌, Option, Some, None, MatchOption}
 use Rattle.std.specs.List.{position, position_or_len, list_all}
 use Rattle.std.proofs.lemmas.List.Recursion.{is_position_or_len}
 use Rattle.machine.proofs.Tests.{test}
-use Rattle.heavy.specs.Counters.{index_of, lowered, names_with, counts_with, counted_with, none_above, sum, Notes}
+use Rattle.heavy.specs.declared.Counter.{Counter}
+use Rattle.heavy.specs.Counters.{names_in, counts_in, index_of, lowered, names_with, counts_with, counted_with, none_above, sum, Notes}
 
-index_first : (x : ℕ) (s : List ℕ) → index_of x s ≡ position_or_len (λ y. eqb y x) s
-unfolding index_of
-index_first x s = is_position_or_len (index_of x) (λ y. eqb y x) refl (λ y s. step (index_of x s) (eqb y x)) s
-  where
-    step : (n : ℕ) (b : Bool) → (if b then 0 else suc n) ≡ cond b 0 (1 + n)
-    step n true = refl
-    step n false = omega arith
+-- ---- names and counts of counters
 
-pub sought : (x : ℕ) (s : List ℕ) {r : Option ℕ} → r ≡ position (λ y. eqb y x) s → MatchOption r (length s ≤ index_of x s) (λ i. (i ≡ index_of x s) × (i < length s))
-sought x s e = rw (e, index_first x s) (found (position_or_len (λ y. eqb y x) s) (length s))
-  where
-    found : (p n : ℕ) → MatchOption (cond (ltb p n) (Some p) None) (n ≤ p) (λ i. (i ≡ p) × (i < n))
-    found p n = elim (test (ltb p n)) [
-      | inl t ↦ rw t (refl, ltb-true p n t)
-      | inr t ↦ rw t (ltb-false p n t)
-    ]
+pub length-names : (cs : List Counter) → length (names_in cs) ≡ length cs
+unfolding names_in
+length-names [] = refl
+length-names (c ∷ cs) = ap suc (length-names cs)
 
-pub all-below : (most : ℕ) (s : List ℕ) → list_all (λ y. leb y most) s ≡ none_above most s
-unfolding none_above
+pub length-counts : (cs : List Counter) → length (counts_in cs) ≡ length cs
+unfolding counts_in
+length-counts [] = refl
+length-counts (c ∷ cs) = ap suc (length-counts cs)
+
+pub names_set : (cs : List Counter) (i n k : ℕ) → names_in (set cs i (record { name = n; count = k })) ≡ set (names_in cs) i n
+unfolding names_in
+names_set [] i n k = refl
+names_set (c ∷ cs) zero n k = refl
+names_set (c ∷ cs) (suc i) n k = ap (λ (ns : List ℕ). c.name ∷ ns) (names_set cs i n k)
+
+pub counts_set : (cs : List Counter) (i n k : ℕ) → counts_in (set cs i (record { name = n; count = k })) ≡ set (counts_in cs) i k
+unfolding counts_in
+counts_set [] i n k = refl
+counts_set (c ∷ cs) zero n k = refl
+counts_set (c ∷ cs) (suc i) n k = ap (λ (ks : List ℕ). c.count ∷ ks) (counts_set cs i n k)
+
+-- a counter keeps its name
+pub names_kept : (cs : List Counter) (i k : ℕ) → names_in (set cs i (record { name = (get_or cs i (record { name = 0; count = 0 })).name; count = k })) ≡ names_in cs
+unfolding names_in
+names_kept [] i k = refl
+names_kept (c ∷ cs) zero k = refl
+names_kept (c ∷ cs) (suc i) k = ap (λ (ns : List ℕ). c.name ∷ ns) (names_kept cs i k)
+
+pub count_at : (cs : List Counter) (i : ℕ) → (get_or cs i (record { name = 0; count = 0 })).count ≡ get_or (counts_in cs) i 0
+unfolding counts_in
+count_at [] i = refl
+count_at (c ∷ cs) zero = refl
+count_at (c ∷ cs) (suc i) = count_at cs i
+
+-- ---- where a name stands, or a count of 0
+
+step : (n : ℕ) (b : Bool) → (if b then 0 else suc n) ≡ cond b 0 (1 + n)
+step n true = refl
+step n false = omega arith
+
+found : (p n : ℕ) → MatchOption (cond (ltb p n) (Some p) None) (n ≤ p) (λ i. (i ≡ p) × (i < n))
+found p n = elim (test (ltb p n)) [
+  | inl t ↦ rw t (refl, ltb-true p n t)
+  | inr t ↦ rw t (ltb-false p n t)
+]
+
+name_first : (x : ℕ) (cs : List Counter) → index_of x (names_in cs) ≡ position_or_len (λ c. eqb c.name x) cs
+unfolding index_of names_in
+name_first x cs = is_position_or_len (λ (ds : List Counter). index_of x (names_in ds)) (λ c. eqb c.name x) refl (λ c ds. step (index_of x (names_in ds)) (eqb c.name x)) cs
+
+count_first : (x : ℕ) (cs : List Counter) → index_of x (counts_in cs) ≡ position_or_len (λ c. eqb c.count x) cs
+unfolding index_of counts_in
+count_first x cs = is_position_or_len (λ (ds : List Counter). index_of x (counts_in ds)) (λ c. eqb c.count x) refl (λ c ds. step (index_of x (counts_in ds)) (eqb c.count x)) cs
+
+pub name_sought : (x : ℕ) (cs : List Counter) {r : Option ℕ} → r ≡ position (λ c. eqb c.name x) cs
+    → MatchOption r (length (names_in cs) ≤ index_of x (names_in cs)) (λ i. (i ≡ index_of x (names_in cs)) × (i < length cs))
+name_sought x cs e = rw (e, name_first x cs, length-names cs) (found (position_or_len (λ c. eqb c.name x) cs) (length cs))
+
+pub count_sought : (x : ℕ) (cs : List Counter) {r : Option ℕ} → r ≡ position (λ c. eqb c.count x) cs
+    → MatchOption r (length (counts_in cs) ≤ index_of x (counts_in cs)) (λ i. (i ≡ index_of x (counts_in cs)) × (i < length cs))
+count_sought x cs e = rw (e, count_first x cs, length-counts cs) (found (position_or_len (λ c. eqb c.count x) cs) (length cs))
+
+pub all-below : (most : ℕ) (cs : List Counter) → list_all (λ c. leb c.count most) cs ≡ none_above most (counts_in cs)
+unfolding none_above counts_in
 all-below most [] = refl
-all-below most (c ∷ s) = ap (λ b. leb c most && b) (all-below most s)
+all-below most (c ∷ cs) = ap (λ b. leb c.count most && b) (all-below most cs)
+
+-- ---- the first i counts at 0
+
+pub zeros_more : (cs : List Counter) (i n : ℕ) → i < length cs → sum (take i (counts_in cs)) ≡ 0 → sum (take (i + 1) (counts_in (set cs i (record { name = n; count = 0 })))) ≡ 0
+unfolding sum counts_in
+zeros_more cs i n h e = rw (add-one i) (go cs i h e)
+  where
+    go : (ds : List Counter) (j : ℕ) → j < length ds → sum (take j (counts_in ds)) ≡ 0 → sum (take (suc j) (counts_in (set ds j (record { name = n; count = 0 })))) ≡ 0
+    go [] j h e = absurd (omega arith)
+    go (d ∷ ds) zero h e = refl
+    go (d ∷ ds) (suc j) h e = omega (arith, go ds j (omega arith) (omega (arith, e)), e)
+
+pub zeros_all : (cs : List Counter) (i : ℕ) → length cs ≤ i → sum (take i (counts_in cs)) ≡ 0 → sum (counts_in cs) ≡ 0
+zeros_all cs i h e = rw (take_all i (counts_in cs) (omega (arith, length-counts cs))) at e
+
+pub length-nought : (k : ℕ) → length (counts_in (replicate k (record { name = 0; count = 0 }))) ≡ k
+unfolding counts_in
+length-nought zero = refl
+length-nought (suc k) = ap suc (length-nought k)
+
+pub sum-nought : (k : ℕ) → sum (counts_in (replicate k (record { name = 0; count = 0 }))) ≡ 0
+unfolding counts_in sum
+sum-nought zero = refl
+sum-nought (suc k) = omega (arith, sum-nought k)
 
 -- ---- the first i counts lowered
 

@@ -1,5 +1,14 @@
 -- Which numbers come often in a list, found with a few counters: each has a name and a count.
 use Rattle.std.specs.Prelude.{ℕ, suc, ◌+◌, ◌-◌, ◌≤◌, ◌≡◌, Bool, true, ◌&&◌, List, [], ◌∷◌, ltb, leb, eqb, length, get_or, set, if◌then◌else◌}
+use Rattle.heavy.specs.declared.Counter.{Counter}
+
+unfoldable pub names_in : List Counter → List ℕ
+names_in [] = []
+names_in (c ∷ cs) = c.name ∷ names_in cs
+
+unfoldable pub counts_in : List Counter → List ℕ
+counts_in [] = []
+counts_in (c ∷ cs) = c.count ∷ counts_in cs
 
 -- how often x stands in a list
 unfoldable pub times : ℕ → List ℕ → ℕ

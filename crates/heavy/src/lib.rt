@@ -6,74 +6,76 @@
 #![tactic(auto)]
 
 ghost use Rattle.std.specs.Prelude.{◌≡◌, ◌<◌, ◌≤◌, ◌^◌, length, MatchOption};
-ghost use Rattle.heavy.specs.Counters.{index_of, lowered, Notes, counted_with, none_above, sum};
+ghost use Rattle.heavy.specs.Counters.{names_in, counts_in, index_of, lowered, Notes, counted_with, none_above, sum};
 
-// Where x first stands.
-fn seek(list: &[u64], x: u64) -> Option<usize>
-    ensures { MatchOption result (length list.now ≤ index_of x list.now) (λ i. (i ≡ index_of x list.now) × (i < length list.now)) }
+// A number and how often it is met.
+#[derive(Clone, Copy)]
+pub struct Counter {
+    pub name: u64,
+    pub count: u64,
+}
+
+// The counter that has this name.
+fn named(counters: &[Counter], x: u64) -> Option<usize>
+    ensures { MatchOption result (length (names_in counters.now) ≤ index_of x (names_in counters.now)) (λ i. (i ≡ index_of x (names_in counters.now)) × (i < length counters.now)) }
 {
-    list.iter().position(|&y| y == x)
+    counters.iter().position(|c| c.name == x)
+}
+
+// The first counter at 0.
+fn unused(counters: &[Counter]) -> Option<usize>
+    ensures { MatchOption result (length (counts_in counters.now) ≤ index_of 0 (counts_in counters.now)) (λ i. (i ≡ index_of 0 (counts_in counters.now)) × (i < length counters.now)) }
+{
+    counters.iter().position(|c| c.count == 0)
 }
 
 // Every count goes down by one.
-fn lower(counts: &mut [u64])
-    ensures { counts.new ≡ lowered counts.old }
+fn lower(counters: &mut [Counter])
+    ensures { (names_in counters.new ≡ names_in counters.old) × (counts_in counters.new ≡ lowered (counts_in counters.old)) }
 {
-    for count in counts {
-        *count = count.saturating_sub(1);
+    for c in counters {
+        c.count = c.count.saturating_sub(1);
     }
 }
 
-// Counters: names, and beside each its count. (Two slices and no pairs: `seek` searches either.)
-#[derive(Drop)]
-pub struct Counters<'a> {
-    pub names: &'a mut [u64],
-    pub counts: &'a mut [u64],
-    ghost even: { length names.now ≡ length counts.now },
+// First pass: x is met.
+pub fn note(counters: &mut [Counter], x: u64)
+    requires { sum (counts_in counters.old) < 2 ^ 63 }
+    ensures { Notes (names_in counters.old) (counts_in counters.old) (names_in counters.new) (counts_in counters.new) x }
+{
+    if let Some(i) = named(counters, x) {
+        counters[i].count += 1;
+        return;
+    }
+    if let Some(j) = unused(counters) {
+        counters[j] = Counter { name: x, count: 1 };
+        return;
+    }
+    lower(counters);
 }
 
-impl<'a> Counters<'a> {
-    // First pass: x is met.
-    pub fn note(&mut self, x: u64)
-        requires { sum self.old.counts.now < 2 ^ 63 }
-        ensures { Notes self.old.names.now self.old.counts.now self.new.names.now self.new.counts.now x }
-    {
-        let names = &mut *self.names;
-        let counts = &mut *self.counts;
-        if let Some(i) = seek(names, x) {
-            counts[i] += 1;
-            return;
-        }
-        if let Some(j) = seek(counts, 0) {
-            names[j] = x;
-            counts[j] = 1;
-            return;
-        }
-        lower(counts);
+// Between the passes: each name stays, and its count is 0.
+pub fn restart(counters: &mut [Counter])
+    ensures { (names_in counters.new ≡ names_in counters.old) × (sum (counts_in counters.new) ≡ 0) }
+{
+    for c in counters {
+        c.count = 0;
     }
+}
 
-    // Between the passes: each name stays, and its count is 0.
-    pub fn restart(&mut self)
-        ensures { (self.new.names.now ≡ self.old.names.now) × (sum self.new.counts.now ≡ 0) }
-    {
-        self.counts.fill(0);
+// Second pass: x is counted, if it has a name.
+pub fn count(counters: &mut [Counter], x: u64)
+    requires { sum (counts_in counters.old) < 2 ^ 63 }
+    ensures { (names_in counters.new ≡ names_in counters.old) × (counts_in counters.new ≡ counted_with x (names_in counters.old) (counts_in counters.old)) }
+{
+    if let Some(at) = named(counters, x) {
+        counters[at].count += 1;
     }
+}
 
-    // Second pass: x is counted, if it has a name.
-    pub fn count(&mut self, x: u64)
-        requires { sum self.old.counts.now < 2 ^ 63 }
-        ensures { (self.new.names.now ≡ self.old.names.now) × (self.new.counts.now ≡ counted_with x self.old.names.now self.old.counts.now) }
-    {
-        let names = &mut *self.names;
-        if let Some(i) = seek(names, x) {
-            self.counts[i] += 1;
-        }
-    }
-
-    // Whether no count is above `most`.
-    pub fn none_above(&self, most: u64) -> bool
-        ensures { result ≡ none_above most self.now.counts.now }
-    {
-        self.counts.iter().all(|&count| count <= most)
-    }
+// Whether no count is above `most`.
+pub fn none_above(counters: &[Counter], most: u64) -> bool
+    ensures { result ≡ none_above most (counts_in counters.now) }
+{
+    counters.iter().all(|c| c.count <= most)
 }

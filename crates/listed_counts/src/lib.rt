@@ -5,10 +5,10 @@
 #![tactic(auto)]
 
 ghost use Rattle.std.specs.Prelude.{◌≡◌, Bool, true, false, ◌<◌, ◌^◌, length};
-ghost use Rattle.heavy.specs.Counters.{sum};
+ghost use Rattle.heavy.specs.Counters.{names_in, counts_in, sum};
 ghost use Rattle.listed_counts.specs.Passes.{Adds, Notes, Counts, NotesAll, CountsAll, Verdict, LightRead};
 
-use heavy::Counters;
+use heavy::Counter;
 use lent_lists::LIST;
 use listed_lines::cursor::{Lines, Lists};
 use listed_lines::line::Line;
@@ -51,71 +51,65 @@ impl Counted for Connections {
     }
 }
 
-// ---- one number more, if there is one
-
-fn note_number(counters: &mut Counters, n: Option<u64>)
-    requires { sum counters.old.counts.now < 2 ^ 63 }
-    ensures { Notes n counters.old.names.now counters.old.counts.now counters.new.names.now counters.new.counts.now }
-{
-    let Some(x) = n else {
-        return;
-    };
-    counters.note(x);
-}
-
-fn count_number(counters: &mut Counters, n: Option<u64>)
-    requires { sum counters.old.counts.now < 2 ^ 63 }
-    ensures { (counters.new.names.now ≡ counters.old.names.now) × Counts n counters.old.names.now counters.old.counts.now counters.new.counts.now }
-{
-    let Some(x) = n else {
-        return;
-    };
-    counters.count(x);
-}
-
 // ---- the passes over the lines (no `for`: an `Iterator` has no lists to lend to `Lines::next`)
 
-fn note_lines<N: Counted>(mut lines: Lines, counters: &mut Counters, lists: &mut Lists)
-    requires { sum counters.old.counts.now ≡ 0 }
-    ensures { NotesAll lines.entry.text.now lines.entry.at N.owners counters.old.names.now counters.old.counts.now counters.new.names.now }
+// Two functions of one shape: one notes a number, the other counts it, and each has a loop's invariant of its own. One walk over a closure would ask for a contract of
+// the closure beside these two, and for the counters to be lent to it.
+
+fn note_number(counters: &mut [Counter], n: Option<u64>)
+    requires { sum (counts_in counters.old) < 2 ^ 63 }
+    ensures { Notes n (names_in counters.old) (counts_in counters.old) (names_in counters.new) (counts_in counters.new) }
+{
+    if let Some(x) = n {
+        heavy::note(counters, x);
+    }
+}
+
+fn count_number(counters: &mut [Counter], n: Option<u64>)
+    requires { sum (counts_in counters.old) < 2 ^ 63 }
+    ensures { (names_in counters.new ≡ names_in counters.old) × Counts n (names_in counters.old) (counts_in counters.old) (counts_in counters.new) }
+{
+    if let Some(x) = n {
+        heavy::count(counters, x);
+    }
+}
+
+fn note_lines<N: Counted>(mut lines: Lines, counters: &mut [Counter], lists: &mut Lists)
+    requires { sum (counts_in counters.old) ≡ 0 }
+    ensures { NotesAll lines.entry.text.now lines.entry.at N.owners (names_in counters.old) (counts_in counters.old) (names_in counters.new) }
 {
     while let Some(line) = lines.next(lists) {
         note_number(counters, N::number_of(line));
     }
 }
 
-fn count_lines<N: Counted>(mut lines: Lines, counters: &mut Counters, lists: &mut Lists)
-    requires { sum counters.old.counts.now ≡ 0 }
-    ensures { CountsAll lines.entry.text.now lines.entry.at N.owners counters.old.names.now counters.old.counts.now counters.new.counts.now }
+fn count_lines<N: Counted>(mut lines: Lines, counters: &mut [Counter], lists: &mut Lists)
+    requires { sum (counts_in counters.old) ≡ 0 }
+    ensures { CountsAll lines.entry.text.now lines.entry.at N.owners (names_in counters.old) (counts_in counters.old) (counts_in counters.new) }
 {
     while let Some(line) = lines.next(lists) {
         count_number(counters, N::number_of(line));
     }
 }
 
-// K zeros. (The bound says that there is an array of K words; a const parameter has no other place for it.)
-fn zeros<const K: usize>() -> [u64; K]
-    requires { K < 2 ^ 60 }
-    ensures { (length result ≡ K) × (sum result ≡ 0) }
+// K counters at 0. (The bound says that there is an array of K of them; a const parameter has no other place for it.)
+fn zeros<const K: usize>() -> [Counter; K]
+    requires { K < 2 ^ 58 }
+    ensures { (length (counts_in result) ≡ K) × (sum (counts_in result) ≡ 0) }
 {
-    [0; K]
+    [Counter { name: 0, count: 0 }; K]
 }
 
 // Whether no number comes more than `most` times: named in one pass, counted in another, with K counters.
 fn none_often<N: Counted, const K: usize>(lines: Lines, most: u64, lists: &mut Lists) -> bool
-    requires { K < 2 ^ 60 }
+    requires { K < 2 ^ 58 }
     ensures { Verdict lines.entry.text.now lines.entry.at N.owners most K result }
 {
-    let mut names = zeros::<K>();
-    let mut counts = zeros::<K>();
-    let mut counters = Counters {
-        names: &mut names,
-        counts: &mut counts,
-    };
+    let mut counters = zeros::<K>();
     note_lines::<N>(lines, &mut counters, lists);
-    counters.restart();
+    heavy::restart(&mut counters);
     count_lines::<N>(lines, &mut counters, lists);
-    counters.none_above(most)
+    heavy::none_above(&counters, most)
 }
 
 // Of the requests that the lines list: whether no connection is that of more than 5,000 candidates, and none owns more than 100 requests.

@@ -1,12 +1,14 @@
 -- `listed_counts::none_often` meets its contract: both passes.
 use mathlib.Core.Path.{sym, ap, ◌∙◌}
 use lib.ListN.{length}
+use Rattle.heavy.proofs.Seeking.{length-names, length-counts}
 use Rattle.listed_counts.proofs.Tables.{passes-tell, verdict_with}
 use Rattle.listed_counts.proofs.none_often.Goals as goal
 
 pub returns : goal.returns
 returns g c =
-    let k = c.zeros-counts.ensures in
-    let n = c.zeros-names.ensures in
+    let k = c.zeros-counters.ensures in
     let r = c.restart.ensures in
-    verdict_with k.0 (passes-tell c.note_lines.ensures (rw r.0 at c.count_lines.ensures) c.none_above.ensures (n.0 ∙ sym k.0) k.1 (ap length (sym r.0) ∙ c.restart.new.self.even) r.1)
+    let even = length-names c.zeros-counters.result ∙ sym (length-counts c.zeros-counters.result) in
+    let again = ap length (sym r.0) ∙ length-names c.restart.new.counters ∙ sym (length-counts c.restart.new.counters) in
+    verdict_with k.0 (passes-tell c.note_lines.ensures (rw r.0 at c.count_lines.ensures) c.none_above.ensures even k.1 again r.1)
