@@ -9,8 +9,7 @@ ghost use Rattle.heavy.specs.Counters.{names_in, counts_in, sum};
 ghost use Rattle.listed_counts.specs.Passes.{Adds, Notes, Counts, NotesAll, CountsAll, Verdict, LightRead};
 
 use heavy::Counter;
-use lent_lists::LIST;
-use listed_lines::cursor::{Lines, Lists};
+use listed_lines::cursor::{Lines, ListBytes, Lists};
 use listed_lines::line::Line;
 use machine::limits::{MAX_PEER_ANNOUNCEMENTS, MAX_PEER_IN_FLIGHT};
 
@@ -116,12 +115,8 @@ fn none_often<N: Counted, const K: usize>(lines: Lines, most: u64, lists: &mut L
 pub fn light(lines: Lines) -> bool
     ensures { LightRead lines.entry.text.now lines.entry.at result }
 {
-    let mut wtxids = [0; LIST];
-    let mut parents = [0; LIST];
-    let mut lists = Lists {
-        wtxids: &mut wtxids,
-        parents: &mut parents,
-    };
+    let mut bytes = ListBytes::zeros();
+    let mut lists = bytes.lend();
     none_often::<Connections, 19>(lines, MAX_PEER_ANNOUNCEMENTS, &mut lists)
         && none_often::<Owners, 999>(lines, MAX_PEER_IN_FLIGHT, &mut lists)
 }

@@ -10,8 +10,7 @@ ghost use Rattle.listed_lines.specs.Given.{lines_of_text};
 ghost use Rattle.listed_form.specs.Placed.{Start, meets_key, placed_from};
 ghost use Rattle.listed_form.specs.Given.{key_in, met_of, met_if, Meets, FormRead};
 
-use lent_lists::LIST;
-use listed_lines::cursor::{Lines, Lists};
+use listed_lines::cursor::{Lines, ListBytes, Lists};
 use listed_lines::line::{Head, Line};
 
 // A listing's first line, and the lines behind it.
@@ -69,12 +68,8 @@ fn placed(mut lines: Lines, lists: &mut Lists) -> bool
 pub fn form_of(text: &[u8]) -> Option<Listing>
     ensures { FormRead text.now result }
 {
-    let mut wtxids = [0; LIST];
-    let mut parents = [0; LIST];
-    let mut lists = Lists {
-        wtxids: &mut wtxids,
-        parents: &mut parents,
-    };
+    let mut bytes = ListBytes::zeros();
+    let mut lists = bytes.lend();
     let mut lines = Lines { text, at: 0 };
     let line = lines.next(&mut lists)?;
     let Line::Head(head) = line else {

@@ -1,8 +1,9 @@
 // The lines of a text one after the other.
-ghost use Rattle.std.specs.Prelude.{◌≡◌, ◌≤◌, ◌↔◌, IsTrue, IfSome, IsNone, length};
+ghost use Rattle.std.specs.Prelude.{◌≡◌, ◌≤◌, ◌↔◌, IsTrue, IfSome, IsNone, length, replicate};
 ghost use Rattle.listed_lines.specs.Given.{LineRead, list_room};
 
 use crate::line::{Line, line_at};
+use lent_lists::LIST;
 
 // Lent bytes for the two lists of a request's line, 32 for each hash.
 #[derive(Drop)]
@@ -10,6 +11,32 @@ pub struct Lists<'a> {
     pub wtxids: &'a mut [u8],
     pub parents: &'a mut [u8],
     ghost room: { (list_room ≤ length wtxids.now) × (list_room ≤ length parents.now) },
+}
+
+// The bytes of both lists, for a pass that has none lent. (What takes lists takes `Lists`: a caller may lend slices that are longer.)
+#[derive(Drop)]
+pub struct ListBytes {
+    wtxids: [u8; LIST],
+    parents: [u8; LIST],
+}
+
+impl ListBytes {
+    pub fn zeros() -> ListBytes
+        ensures { (result.wtxids ≡ replicate list_room 0) × (result.parents ≡ replicate list_room 0) }
+    {
+        ListBytes {
+            wtxids: [0; LIST],
+            parents: [0; LIST],
+        }
+    }
+
+    pub fn lend<'a>(&'a mut self) -> Lists<'a>
+        ensures { (result.wtxids.now ≡ self.old.wtxids) × (result.parents.now ≡ self.old.parents) }
+    {
+        let wtxids = &mut self.wtxids;
+        let parents = &mut self.parents;
+        Lists { wtxids, parents }
+    }
 }
 
 // The lines from an index on. (A function that takes a `&mut Lines` promises that the text is the same afterwards: that is of two values, before the call and behind it,

@@ -118,7 +118,7 @@ fn read_candidate(line: &[u8]) -> Option<Candidate>
 }
 
 // A line of bytes without its line feed. Where it is a request's, its wtxids and parents stand in the lent bytes.
-pub fn line_in(line: &[u8], wtxids: &mut [u8], parents: &mut [u8]) -> Line
+fn line_in(line: &[u8], wtxids: &mut [u8], parents: &mut [u8]) -> Line
     requires { (list_room ≤ length wtxids.old) × (list_room ≤ length parents.old) }
     ensures { line_of short (fields line.now) ≡ line_in wtxids.new parents.new result }
 {

@@ -9,7 +9,7 @@ ghost use Rattle.listed_lines.specs.Given.{FirstParsed, FnOnceReturnsIn, MaybePa
 use lines::read::{Named, field_end};
 use reading::fields::{Parsed, key_at, number_at};
 
-// The first field, as `parse` reads it.
+// The first field, as `parse` reads it. (No `field_at` of crates/reading: that one begins behind a comma.)
 fn first_field<T, F: FnOnce(&[u8]) -> Option<T>>(line: &[u8], parse: F) -> Option<Parsed<T>>
     requires { F.IsAlwaysCallable parse }
     ensures { FirstParsed (FnOnceReturnsAt F.FnOnce parse) line.now result }
@@ -31,7 +31,7 @@ pub fn first_key(line: &[u8]) -> Option<Parsed<Named<ident::Kind>>>
     first_field(line, lines::read::key)
 }
 
-// Where the field behind the comma at index e ends, if it is `none`.
+// Where the field behind the comma at index e ends, if it is `none`. (By hand: `field_at` of crates/reading answers what a parser gives, and `none` gives nothing.)
 pub fn none_at(line: &[u8], e: usize) -> Option<usize>
     ensures { NoneAt line.now e result }
 {

@@ -30,7 +30,8 @@ pub struct Gathered {
     pub fit: bool,
 }
 
-pub fn same_quad(a: regions::Quad, b: regions::Quad) -> bool
+// (A function, as its contract says what the derived `==` means of numbers.)
+fn same_quad(a: regions::Quad, b: regions::Quad) -> bool
     ensures { result ≡ eqb (quad_number a) (quad_number b) }
 {
     a == b
@@ -70,6 +71,7 @@ pub fn gather(lines: &mut Lines, key: regions::Key, n: usize, room: &mut Room) -
             return None;
         }
         room.conns[count] = c.connection;
+        // (`&`: the candidate is tested in either case, so that a turn has one way through.)
         fit = fit & fits(c, key);
         count += 1;
     }

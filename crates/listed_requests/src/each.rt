@@ -1,5 +1,5 @@
 // The requests of a listing one after the other: their order, each of them by itself, how many announcements and places they hold.
-ghost use Rattle.std.specs.Prelude.{◌≡◌, ◌<◌, ◌≤◌, leb, length};
+ghost use Rattle.std.specs.Prelude.{◌≡◌, ◌<◌, ◌≤◌, is_some, leb, length};
 ghost use Rattle.ident.specs.Number.{place};
 ghost use Rattle.machine.specs.Limits.{max_announcements, max_places};
 ghost use Rattle.listed_form.specs.Given.{key_in};
@@ -8,9 +8,9 @@ ghost use Rattle.listed_requests.specs.Given.{lowest_of, place_for, Within, Step
 use crate::candidates::Room;
 use crate::forms::next_request;
 use crate::lawful::judge;
-use lent_lists::LIST;
 use listed_form::comes_before;
-use listed_lines::cursor::{Lines, Lists};
+use listed_lines::cursor::{Lines, ListBytes};
+use listed_lines::line::Request;
 use machine::limits::MAX_ALTERNATES;
 
 // The key of the last request, if there was one; announcements and places that are held up to it.
@@ -31,11 +31,11 @@ fn rises(p: Pass, key: regions::Key) -> bool
     }
 }
 
-// A flag or a package takes a place. (Both are bits that are counted.)
-fn place_of(info: bool, packed: bool) -> u64
-    ensures { result ≡ place_for info packed }
+// A flag or a package takes a place.
+fn place_of(r: Request) -> u64
+    ensures { result ≡ place_for r.info (is_some r.packed) }
 {
-    u64::from(info | packed)
+    u64::from(r.info || r.packed.is_some())
 }
 
 // The next request: what is known behind it, if it passes.
@@ -53,7 +53,7 @@ fn advance(lines: &mut Lines, p: Pass, limit: u64, places: u64, room: &mut Room)
     if limit < held {
         return None;
     }
-    let taken = p.taken + place_of(r.info, r.packed.is_some());
+    let taken = p.taken + place_of(r);
     if places < taken {
         return None;
     }
@@ -66,14 +66,10 @@ pub fn each_fits(mut lines: Lines, limit: u64, places: u64) -> bool
     requires { (limit ≤ max_announcements) × (places ≤ max_places) }
     ensures { EachFits lines.entry.text.now lines.entry.at limit places result }
 {
-    let mut wtxids = [0; LIST];
-    let mut parents = [0; LIST];
+    let mut bytes = ListBytes::zeros();
     let mut conns = [0; MAX_ALTERNATES];
     let mut room = Room {
-        lists: Lists {
-            wtxids: &mut wtxids,
-            parents: &mut parents,
-        },
+        lists: bytes.lend(),
         conns: &mut conns,
     };
     let mut pass = Pass {

@@ -1,5 +1,5 @@
 // One request by itself: what document 01 asks of its owner, package, parents and mark, and of its candidates.
-ghost use Rattle.std.specs.Prelude.{◌≡◌, ◌≤◌, length, take};
+ghost use Rattle.std.specs.Prelude.{◌≡◌, ◌≤◌, is_some, length, take};
 ghost use Rattle.ident.specs.declared.Kind.TheVariants.{Wtxid};
 ghost use Rattle.machine.specs.Claim.{same_kind};
 ghost use Rattle.machine.specs.SoundTest.{mark_fits};
@@ -13,6 +13,7 @@ use listed_lines::line::Request;
 use listed_lines::parts::Owner;
 use machine::limits::MAX_PARENTS;
 
+// (A function, as its contract says what the derived `==` means in document 01.)
 pub fn is_wtxid(kind: ident::Kind) -> bool
     ensures { result ≡ same_kind kind Wtxid }
 {
@@ -23,17 +24,17 @@ pub fn is_wtxid(kind: ident::Kind) -> bool
 fn mark_fits(kind: ident::Kind, mark: bool) -> bool
     ensures { result ≡ mark_fits kind mark }
 {
-    !mark | !is_wtxid(kind)
+    !mark || !is_wtxid(kind)
 }
 
 // The rows of the definition's table, by what the line has: "flag or package only with an owner, never both, only on Wtxid keys; parents .. only beside flag or package"
-fn packs(kind: ident::Kind, owned: bool, info: bool, packed: bool, parents: usize) -> bool
-    ensures { result ≡ packs kind owned info packed parents }
+fn packs(r: Request) -> bool
+    ensures { result ≡ packs r.key.kind (is_some r.owner) r.info (is_some r.packed) r.parents }
 {
-    match (info, packed) {
-        (true, true) => false,
-        (false, false) => parents == 0,
-        _ => owned & is_wtxid(kind),
+    match (r.info, r.packed) {
+        (true, Some(_)) => false,
+        (false, None) => r.parents == 0,
+        _ => r.owner.is_some() && is_wtxid(r.key.kind),
     }
 }
 
@@ -61,7 +62,7 @@ fn line_fits(r: Request, lists: &Lists) -> bool
     if !mark_fits(r.key.kind, r.mark) {
         return false;
     }
-    packs(r.key.kind, r.owner.is_some(), r.info, r.packed.is_some(), n)
+    packs(r)
 }
 
 // A request, whose candidates come next: how many it has, if it is lawful.
@@ -77,6 +78,7 @@ pub fn judge(lines: &mut Lines, r: Request, room: &mut Room) -> Option<usize>
     let conns = &mut *room.conns;
     let once = all_distinct(&conns[..count]);
     let owner = owner_stands(r.owner, &conns[..count]);
+    // (`&`: each of them is known here, so that there is one way through and not four.)
     let fit = g.fit & once & owner & (0 < count);
     if !fit {
         return None;

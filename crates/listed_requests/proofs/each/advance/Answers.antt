@@ -25,11 +25,11 @@ returns-then-limit-held-clause-step c =
 pub returns-then-places-taken-clause-step : goal.returns-then-places-taken-clause-step
 returns-then-places-taken-clause-step c =
     let a = c.args in
-    stops-taken a.limit a.places a.p c.in_ok-r.ensures.next (rw c.in_ok-r.ensures.same at c.in_ok-count.ensures.judged) (rw c.is_some.ensures at c.place_of.ensures) refl c.if-places-taken.true
+    stops-taken a.limit a.places a.p c.in_ok-r.ensures.next (rw c.in_ok-r.ensures.same at c.in_ok-count.ensures.judged) c.place_of.ensures refl c.if-places-taken.true
 
 pub returns-clause-step : goal.returns-clause-step
 returns-clause-step c =
     let a = c.args in
-    goes_on_lem a.limit a.places a.p c.in_ok-r.ensures.next (rw c.in_ok-r.ensures.same at c.in_ok-count.ensures.judged) (rw c.is_some.ensures at c.place_of.ensures) refl
+    goes_on_lem a.limit a.places a.p c.in_ok-r.ensures.next (rw c.in_ok-r.ensures.same at c.in_ok-count.ensures.judged) c.place_of.ensures refl
     c.rises.ensures c.if-not-rises.false
     refl (omega (arith, c.if-limit-held.false)) (omega (arith, c.if-places-taken.false))

@@ -18,4 +18,4 @@ returns-then-not-mark_fits c =
 pub returns : goal.returns
 returns c =
     by_package c.args.lists.now.parents.now c.args.r (sym c.hashes_distinct.ensures ∙ c.if-not-hashes_distinct.false)
-    (sym c.mark_fits.ensures ∙ c.if-not-mark_fits.false) (rw (c.is_some.ensures, c.is_some-2.ensures) at c.packs.ensures)
+    (sym c.mark_fits.ensures ∙ c.if-not-mark_fits.false) c.packs.ensures
