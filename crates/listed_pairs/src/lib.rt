@@ -7,8 +7,7 @@ ghost use Rattle.std.specs.Prelude.{◌≡◌, ◌<◌, ◌≤◌, length};
 ghost use Rattle.regions.specs.Rows.{quad_number};
 ghost use Rattle.listed_pairs.specs.Given.{WtxidLine, FirstWtxid, Skips, Below, PassesBelow, SideBySide, Compared, PairsFit};
 
-use lent_lists::LIST;
-use listed_lines::cursor::{Lines, Lists};
+use listed_lines::cursor::{Lines, ListBytes, Lists};
 use listed_lines::line::{Line, Request};
 use listed_requests::candidates::{Room, gather};
 use listed_requests::distinct::all_distinct;
@@ -101,6 +100,7 @@ fn side_by_side(
         return false;
     };
     let once = all_distinct(&room.conns[..b.count]);
+    // (`&`: both are known here, so that there is one way through.)
     once & !(r.owner.is_some() & w.owner.is_some())
 }
 
@@ -143,13 +143,9 @@ fn compare(front: &mut Lines, back: &mut Lines, room: &mut Room) -> Pair
 pub fn pairs_fit(lines: Lines) -> bool
     ensures { PairsFit lines.entry.text.now lines.entry.at result }
 {
-    let mut wtxids = [0; LIST];
-    let mut parents = [0; LIST];
+    let mut bytes = ListBytes::zeros();
+    let mut lists = bytes.lend();
     let mut conns = [0; MAX_ALTERNATES];
-    let mut lists = Lists {
-        wtxids: &mut wtxids,
-        parents: &mut parents,
-    };
     let mut front = lines;
     let mut back = first_wtxid(lines, &mut lists);
     let mut room = Room {
