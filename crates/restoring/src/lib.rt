@@ -11,9 +11,8 @@ ghost use Rattle.store.specs.Image.{Shows};
 ghost use Rattle.listed_form.specs.Given.{Body, requests_only};
 ghost use Rattle.restoring.specs.Given.{LineRoom, TakesLine, bare, untallied, Headed, Readable, Restored};
 
-use lent_lists::LIST;
 use listed_form::Listing;
-use listed_lines::cursor::{Lines, Lists};
+use listed_lines::cursor::{Lines, ListBytes, Lists};
 use listed_lines::line::{Line, Request};
 
 pub mod candidate_rows;
@@ -46,12 +45,8 @@ fn put_lines(mut lines: Lines, s: &mut [u8])
     requires { Headed lines.text.now lines.at s.old }
     ensures { (st : State) → Sound st → Body lines.entry.text.now lines.entry.at (requests_only st.table) → Shows s.old (bare st) → Shows s.new (untallied st) }
 {
-    let mut wtxids = [0; LIST];
-    let mut parents = [0; LIST];
-    let mut lists = Lists {
-        wtxids: &mut wtxids,
-        parents: &mut parents,
-    };
+    let mut bytes = ListBytes::zeros();
+    let mut lists = bytes.lend();
     let mut last = None;
     while let Some(line) = lines.next(&mut lists) {
         last = take_line(s, last, line, &lists);

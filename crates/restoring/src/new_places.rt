@@ -88,6 +88,7 @@ pub fn add_place(s: &mut [u8], r: Request, wtxids: &[u8], parents: &[u8])
     ensures { Turns s.old s.new (λ f. with_places (f.places ++ places_for (request_in wtxids.now parents.now r)) f) }
 {
     let p = r.packed;
+    // (`|`: what stands below is proved of one test, and of no second way to it.)
     if r.info | p.is_some() {
         let n = wtxid_count(p) * HASH_BYTES;
         let m = r.parents * HASH_BYTES;
