@@ -1,13 +1,14 @@
 -- The step on one line, by what it asks for.
 use Prim.Native.Nat.{ℕ, ◌+◌, ◌*◌, ◌/◌, ◌≤◌}
 use mathlib.Core.Path.{◌≡◌, refl, sym, ap, subst, ◌∙◌}
-use mathlib.Core.Bool.{Bool, true, false, not}
-use mathlib.Core.List.{List}
+use mathlib.Core.Bool.{Bool, true, false}
+use mathlib.Core.Logic.{inl, inr}
+use mathlib.Core.List.{List, [], ◌∷◌}
 use mathlib.Core.Option.{Option, none, some}
 use native.Mathlib.Omega.{arith}
 use lib.Dec.{eqb}
 use lib.ListN.{length, take, drop}
-use borrow.Author.Tests.{eq-eqb, ne_eqb}
+use borrow.Author.Tests.{eq-eqb, ne_eqb, eqb-true, eqb-false}
 use Rattle.words.specs.Words.{words, Decides}
 use Rattle.regions.specs.Order.{Sorted}
 use Rattle.machine.specs.State.{State, Entry}
@@ -20,8 +21,14 @@ use Rattle.store.specs.Read.{state_of}
 use Rattle.claiming.specs.Claiming.{entries_from, entries_in}
 use Rattle.sending.proofs.Arranged.{arrange-sorted}
 use Rattle.outcome.specs.Outcome.{Effect, Does}
-use Rattle.std.specs.Prelude.{Result, Ok}
+use Rattle.std.specs.Prelude.{Result, Ok, Err, IfOk, MatchResult}
+use Rattle.ident.specs.declared.connection.Connection.{Connection}
 use Rattle.outcome.specs.declared.refusal.Refusal.{Refusal}
+use Rattle.outcome.specs.declared.refusal.Refusal.TheVariants.{NotSound}
+use Rattle.outcome.specs.Refusals.{number_of, refusal_in}
+use Rattle.outcome.specs.Tests.{in_turn}
+use Rattle.outcome.proofs.Turns.{never_none, connection_none, connection_some, connection_only}
+use Rattle.machine.proofs.Tests.{test}
 use Rattle.public_plans.specs.declared.Selection.{Selection}
 use Rattle.public_plans.specs.Entries.{entries_of, planned_of}
 use Rattle.public_plans.specs.Parts.{connections_in, PartIs}
@@ -32,7 +39,7 @@ use Rattle.printing.specs.Replies.{refusal_text, unreadable, listed, entry_texts
 use Rattle.printing.specs.Given.{most_entries, Printed}
 use Rattle.printing.specs.Kept.{KeptLists, chosen_or, entries_or}
 use Rattle.printing.specs.Answers.{part_text, Answered, Keeping}
-use Rattle.keeping.specs.Steps.{Listable, KeptReply}
+use Rattle.keeping.specs.Steps.{Listable, KeptReply, PartRefused}
 use Rattle.printing.proofs.Printing.{reply-refused}
 use Rattle.printing.proofs.Lines.{keeps_unread}
 use Rattle.printing.proofs.Fitting.{leaves, leaves_is, reply-fits}
@@ -156,12 +163,26 @@ module _ {k : KeptLists} {b out out' : List ℕ} {r n : ℕ} where
   step_part : (sound : Bool) → Decides sound (SoundStore b) → Printed out out' (part_text sound n k.arranged) r → Answered (some (Part n)) k k b b out out' r
   step_part sound d t = record { is = record { kept = refl; store = refl; sound = sound; tested = d; text = t } }
 
-  pub part_unsound : (x : Bool) → Decides x (SoundStore b) → not x ≡ true → Printed out out' (refusal_text 3) r → Answered (some (Part n)) k k b b out out' r
-  part_unsound x d e t = step_part x d (rw e t)
+  pub part_refused : (e : Refusal) → PartRefused b n e → Printed out out' (refusal_text (number_of e)) r → Answered (some (Part n)) k k b b out out' r
+  part_refused e (inl h) t = step_part false h.0 (rw h.1 at t)
+  part_refused e (inr h) t = step_part true h.0 (rw (eq-eqb n 0 h.1) (rw h.2 at t))
 
-  pub part_unnamed : (x : Bool) → Decides x (SoundStore b) → not x ≡ false → n ≡ 0 → Printed out out' (refusal_text 4) r → Answered (some (Part n)) k k b b out out' r
-  part_unnamed x d e z t = step_part x d (rw (e, eq-eqb n 0 z) t)
+  pub part_named : {m : ℕ} → 1 ≤ m → SoundStore b → m ≡ n → Printed out out' (listed (entry_texts (part_of m k.arranged))) r → Answered (some (Part n)) k k b b out out' r
+  part_named {m} p w e t = step_part true w (rw (ne_eqb n 0 (λ z. omega (arith, p, e, z))) (rw e at t))
 
-  pub part_named : (x : Bool) → Decides x (SoundStore b) → not x ≡ false → (n ≡ 0 → ⊥) → Printed out out' (listed (entry_texts (part_of n k.arranged))) r
-      → Answered (some (Part n)) k k b b out out' r
-  part_named x d e z t = step_part x d (rw (e, ne_eqb n 0 z) t)
+-- its two tests
+pub unsound_part : {b : List ℕ} {n : ℕ} {e : Refusal} → (e ≡ NotSound) × (SoundStore b → ⊥) → PartRefused b n e
+unsound_part h = inl (h.1, ap number_of h.0)
+
+module _ {b : List ℕ} (n : ℕ) where
+  unnamed_part : (e : Refusal) → SoundStore b → number_of e ≡ in_turn (n ∷ []) [] 0 0 0 → PartRefused b n e
+  unnamed_part e w q =
+      elim (test (eqb n 0)) [
+        | inl d ↦ let z = eqb-true n 0 d in inr (w, z, q ∙ sym (connection_none n z ∙ connection_only n))
+        | inr d ↦ absurd (never_none e (q ∙ sym (connection_some n (eqb-false n 0 d) ∙ connection_only n)))
+      ]
+
+  pub tested_part : (r : Result Connection Refusal) → SoundStore b → refusal_in r ≡ in_turn (n ∷ []) [] 0 0 0 → IfOk r (λ c. c.number ≡ n)
+      → MatchResult r (λ c. SoundStore b × (c.number ≡ n)) (PartRefused b n)
+  tested_part (Ok c) w q h = (w, h)
+  tested_part (Err e) w q h = unnamed_part e w q

@@ -1,6 +1,6 @@
 // What was taken, arranged for sending (`send`), and one connection's part of it (`part`).
 ghost use Rattle.std.proofs.Math.Option.{some};
-ghost use Rattle.std.specs.Prelude.{◌+◌, ◌≤◌, length};
+ghost use Rattle.std.specs.Prelude.{◌≡◌, ◌+◌, ◌≤◌, length, MatchResult};
 ghost use Rattle.words.specs.Words.{words};
 ghost use Rattle.regions.specs.Order.{Sorted};
 ghost use Rattle.machine.specs.Claim.{part_of};
@@ -11,9 +11,12 @@ ghost use Rattle.reading.specs.Lists.{send_line};
 ghost use Rattle.printing.specs.Replies.{listed, entry_texts};
 ghost use Rattle.printing.specs.Given.{line_room, answer_room, Printed};
 ghost use Rattle.printing.specs.Answers.{Answered};
+ghost use Rattle.store.specs.Image.{SoundStore};
+ghost use Rattle.keeping.specs.Steps.{PartRefused};
 
 use crate::kept::{EntryList, Lists};
-use outcome::Refusal;
+use ident::connection::Connection;
+use outcome::{Refusal, refusals};
 use printing::buffers::answer_buffer;
 use printing::numbers::{refusal, unreadable};
 
@@ -50,15 +53,20 @@ fn put_part(out: &mut [u8], list: &EntryList, connection: u64) -> usize
     printing::entries::put_entries(out, entries, p.first, p.count)
 }
 
+// Tests 3 and 4, as of a call that names the connection.
+fn of_part(store: &[u8], connection: u64) -> Result<Connection, Refusal>
+    ensures { MatchResult result (λ named. SoundStore store.now × (named.number ≡ connection)) (PartRefused store.now connection) }
+{
+    refusals::of_store(store)?;
+    refusals::of_connection(connection)
+}
+
 pub fn answer_part(store: &[u8], lists: &Lists, out: &mut [u8], connection: u64) -> usize
     requires { answer_room ≤ length out.old }
     ensures { Answered (some (Part connection)) lists.now lists.now store.now store.now out.old out.new result }
 {
-    if !sound::sound(store) {
-        return refusal(out, Refusal::NotSound);
+    match of_part(store, connection) {
+        Ok(connection) => put_part(out, &lists.arranged, connection.number),
+        Err(e) => refusal(out, e),
     }
-    if connection == 0 {
-        return refusal(out, Refusal::NoConnection);
-    }
-    put_part(out, &lists.arranged, connection)
 }
