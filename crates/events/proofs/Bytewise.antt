@@ -195,8 +195,8 @@ took_more {p} t u =
       };
     }
 
-pub nothing_held : {none : Length} (buffer store : List ℕ) (lists : KeptLists) → none.bytes ≡ 0 → lists ≡ no_lists → Held (Whole none) buffer store lists (started store)
-nothing_held buffer store lists z w = record { line_is = (z, omega arith, rw z refl); store_is = refl; lists-are = w }
+pub nothing_held : {k : Kept} {buffer store : List ℕ} {lists : KeptLists} → HeldLine k buffer [] → lists ≡ no_lists → Held k buffer store lists (started store)
+nothing_held h w = record { line_is = h; store_is = refl; lists-are = w }
 
 -- ---- the whole input
 

@@ -1,11 +1,9 @@
 // The input parted into lines. A line is counted without its line feed; the last one may lack it.
 //
-// Store, kept lists, line and answer are lent one by one, as to crates/answering, and for its reason.
-ghost use Rattle.std.specs.Prelude.{◌≤◌, length, ◌≡◌, unwrap_or};
-ghost use Rattle.printing.specs.Given.{line_room, answer_room};
-ghost use Rattle.printing.specs.Kept.{no_lists};
+// Store, kept lists, line and answer go one by one: a step on a line changes some and reads others, and answering takes them so.
+ghost use Rattle.std.specs.Prelude.{[], ◌≡◌};
 ghost use Rattle.printing.specs.Answers.{Answered};
-ghost use Rattle.events.specs.Input.{asked_in, has_line, started, OfHeld, Said, Took, TookAll, TookSome, Ended, Ran};
+ghost use Rattle.events.specs.Input.{asked_in, has_line, started, HeldLine, Held, OfHeld, Said, Took, TookAll, TookSome, Ended, Ran};
 
 use crate::kept::{Kept, Length};
 use keeping::kept::Lists;
@@ -16,28 +14,38 @@ const LINE: usize = 65_536;
 
 const OUT: usize = 1_500_000;
 
-pub fn out_buffer() -> [u8; OUT]
-    ensures { length result ≡ answer_room }
-{
-    [0u8; OUT]
+// Bytes that one read takes at most.
+const READ: usize = 4096;
+
+// A line: its bytes so far, and what came of it.
+#[derive(Drop)]
+struct LineBuffer {
+    bytes: [u8; LINE],
+    kept: Kept,
 }
 
-pub fn line_buffer() -> [u8; LINE]
-    ensures { length result ≡ line_room }
-{
-    [0u8; LINE]
+impl LineBuffer {
+    fn none() -> LineBuffer
+        ensures { HeldLine result.kept result.bytes [] }
+    {
+        LineBuffer {
+            bytes: [0u8; LINE],
+            kept: NOTHING,
+        }
+    }
 }
 
 // None of a line.
 const NOTHING: Kept = Kept::Whole(Length { bytes: 0 });
 
 // The text of a line's answer: of no call, if the line is too long.
-fn print(store: &mut [u8], lists: &mut Lists, line: &[u8], kept: Kept, out: &mut [u8]) -> usize
-    requires { (answer_room ≤ length out.old) × (line_room ≤ length line.now) }
-    ensures { Answered (asked_in kept line.now) lists.old lists.new store.old store.new out.old out.new result }
+fn print(store: &mut [u8], lists: &mut Lists, line: &LineBuffer, out: &mut [u8; OUT]) -> usize
+    ensures { Answered (asked_in line.now.kept line.now.bytes) lists.old lists.new store.old store.new out.old out.new result }
 {
-    match kept {
-        Kept::Whole(len) => answering::answers::answer_line(store, lists, &line[..len.bytes], out),
+    match line.kept {
+        Kept::Whole(len) => {
+            answering::answers::answer_line(store, lists, &line.bytes[..len.bytes], out)
+        }
         Kept::TooLong => printing::numbers::unreadable(out),
     }
 }
@@ -48,14 +56,12 @@ fn answer<W: Write>(
     output: &mut W,
     store: &mut [u8],
     lists: &mut Lists,
-    line: &[u8],
-    kept: Kept,
-    out: &mut [u8],
+    line: &LineBuffer,
+    out: &mut [u8; OUT],
 ) -> usize
-    requires { (answer_room ≤ length out.old) × (line_room ≤ length line.now) }
-    ensures { Said (asked_in kept line.now) lists.old lists.new store.old store.new out.new result }
+    ensures { Said (asked_in line.now.kept line.now.bytes) lists.old lists.new store.old store.new out.new result }
 {
-    let n = print(store, lists, line, kept, out);
+    let n = print(store, lists, line, out);
     out[n] = b'\n';
     let end = n + 1;
     let _ = output.write_all(&out[..end]);
@@ -67,71 +73,66 @@ fn take<W: Write>(
     output: &mut W,
     store: &mut [u8],
     lists: &mut Lists,
-    line: &mut [u8],
-    out: &mut [u8],
-    kept: Kept,
+    line: &mut LineBuffer,
+    out: &mut [u8; OUT],
     b: u8,
-) -> Kept
-    requires { (line_room ≤ length line.old) × (answer_room ≤ length out.old) }
-    ensures { OfHeld kept line.old store.old lists.old
-        (λ p. Took p b result line.new store.new lists.new out.new) }
+)
+    ensures { OfHeld line.old.kept line.old.bytes store.old lists.old
+        (λ p. Took p b line.new.kept line.new.bytes store.new lists.new out.new) }
 {
     if b == b'\n' {
-        answer(output, store, lists, line, kept, out);
-        return NOTHING;
+        answer(output, store, lists, line, out);
+        line.kept = NOTHING;
+        return;
     }
-    let Kept::Whole(len) = kept else {
-        return kept;
+    let Kept::Whole(len) = line.kept else {
+        return;
     };
     if len.bytes == LINE {
-        return Kept::TooLong;
+        line.kept = Kept::TooLong;
+        return;
     }
-    line[len.bytes] = b;
-    Kept::Whole(Length {
+    line.bytes[len.bytes] = b;
+    line.kept = Kept::Whole(Length {
         bytes: len.bytes + 1,
-    })
+    });
 }
 
 fn take_all<W: Write>(
     output: &mut W,
     store: &mut [u8],
     lists: &mut Lists,
-    line: &mut [u8],
-    out: &mut [u8],
-    kept: Kept,
+    line: &mut LineBuffer,
+    out: &mut [u8; OUT],
     bytes: &[u8],
-) -> Kept
-    requires { (line_room ≤ length line.old) × (answer_room ≤ length out.old) }
-    ensures { OfHeld kept line.old store.old lists.old
-        (λ p. TookAll p bytes.now result line.new store.new lists.new) }
+)
+    ensures { OfHeld line.old.kept line.old.bytes store.old lists.old
+        (λ p. TookAll p bytes.now line.new.kept line.new.bytes store.new lists.new) }
 {
-    let mut now = kept;
     for &b in bytes {
-        now = take(output, store, lists, line, out, now, b);
+        take(output, store, lists, line, out, b);
     }
-    now
 }
 
-// Reads once: what is kept then, or nothing at the end of the input.
+// Reads once: whether bytes came, or the input is at its end.
 fn read_some<R: Read, W: Write>(
     input: &mut R,
     output: &mut W,
     store: &mut [u8],
     lists: &mut Lists,
-    line: &mut [u8],
-    out: &mut [u8],
-    kept: Kept,
-) -> Option<Kept>
-    requires { (line_room ≤ length line.old) × (answer_room ≤ length out.old) }
-    ensures { OfHeld kept line.old store.old lists.old
-        (λ p. TookSome p (unwrap_or result kept) line.new store.new lists.new) }
+    line: &mut LineBuffer,
+    out: &mut [u8; OUT],
+) -> bool
+    ensures { OfHeld line.old.kept line.old.bytes store.old lists.old
+        (λ p. TookSome p line.new.kept line.new.bytes store.new lists.new) }
 {
-    let mut bytes = [0u8; 4096];
+    let mut bytes = [0u8; READ];
     let n = input.read(&mut bytes).unwrap_or(0);
     if n == 0 {
-        return None;
+        return false;
     }
-    Some(take_all(output, store, lists, line, out, kept, &bytes[..n]))
+    take_all(output, store, lists, line, out, &bytes[..n]);
+    true
 }
 
 // Reads to the end of the input, or until the output is closed. The turns are counted because a proved loop ends: no run uses them up.
@@ -140,23 +141,20 @@ fn read_lines<R: Read, W: Write>(
     output: &mut W,
     store: &mut [u8],
     lists: &mut Lists,
-    line: &mut [u8],
-    out: &mut [u8],
-) -> Kept
-    requires { (lists.old ≡ no_lists) × (line_room ≤ length line.old) × (answer_room ≤ length out.old) }
-    ensures { TookSome (started store.old) result line.new store.new lists.new }
+    line: &mut LineBuffer,
+    out: &mut [u8; OUT],
+)
+    requires { Held line.old.kept line.old.bytes store.old lists.old (started store.old) }
+    ensures { TookSome (started store.old) line.new.kept line.new.bytes store.new lists.new }
 {
-    let mut kept = NOTHING;
     for _ in 0..u64::MAX {
-        let Some(now) = read_some(input, output, store, lists, line, out, kept) else {
-            return kept;
-        };
-        kept = now;
+        if !read_some(input, output, store, lists, line, out) {
+            return;
+        }
         if output.flush().is_err() {
-            return kept;
+            return;
         }
     }
-    kept
 }
 
 // Whether bytes came behind the last line feed.
@@ -174,30 +172,23 @@ fn end<W: Write>(
     output: &mut W,
     store: &mut [u8],
     lists: &mut Lists,
-    line: &[u8],
-    out: &mut [u8],
-    kept: Kept,
+    line: &LineBuffer,
+    out: &mut [u8; OUT],
 )
-    requires { (line_room ≤ length line.now) × (answer_room ≤ length out.old) }
-    ensures { OfHeld kept line.now store.old lists.old (λ p. Ended p store.new out.new) }
+    ensures { OfHeld line.now.kept line.now.bytes store.old lists.old (λ p. Ended p store.new out.new) }
 {
-    if has_line(kept) {
-        answer(output, store, lists, line, kept, out);
+    if has_line(line.kept) {
+        answer(output, store, lists, line, out);
     }
 }
 
 // The whole input.
-pub fn run<R: Read, W: Write>(
-    input: &mut R,
-    output: &mut W,
-    store: &mut [u8],
-    line: &mut [u8],
-    out: &mut [u8],
-)
-    requires { (line_room ≤ length line.old) × (answer_room ≤ length out.old) }
+pub fn run<R: Read, W: Write>(input: &mut R, output: &mut W, store: &mut [u8])
     ensures { Ran store.old store.new }
 {
     let mut lists = Lists::none();
-    let last = read_lines(input, output, store, &mut lists, line, out);
-    end(output, store, &mut lists, line, out, last);
+    let mut line = LineBuffer::none();
+    let mut out = [0u8; OUT];
+    read_lines(input, output, store, &mut lists, &mut line, &mut out);
+    end(output, store, &mut lists, &line, &mut out);
 }

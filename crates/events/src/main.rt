@@ -18,16 +18,8 @@ const CLOSED: u8 = 141;
 
 fn main(rt: HostRuntime) -> ExitCode {
     let mut store = [0u8; STORE];
-    let mut line = input::line_buffer();
-    let mut out = input::out_buffer();
     let mut output = Output::from(rt.stdout());
-    input::run(
-        &mut rt.stdin(),
-        &mut output,
-        &mut store,
-        &mut line,
-        &mut out,
-    );
+    input::run(&mut rt.stdin(), &mut output, &mut store);
     if output.is_closed() {
         ExitCode::from(CLOSED)
     } else {

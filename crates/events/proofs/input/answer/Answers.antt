@@ -6,43 +6,13 @@ use Rattle.events.proofs.Bytewise.{fed}
 use Rattle.events.proofs.input.answer.Goals as goal
 
 pub bounds-out-n : goal.bounds-out-n
-bounds-out-n _ c = omega (
-  arith,
-  c.requires.0,
-  room_of c.print-n.ensures,
-  c.print-n.auto,
-)
+bounds-out-n _ c = omega (arith, room_of c.print-n.ensures)
 
 pub overflow_add-end : goal.overflow_add-end
-overflow_add-end _ c = omega (
-  arith,
-  c.requires.0,
-  room_of c.print-n.ensures,
-)
+overflow_add-end _ c = omega (arith, room_of c.print-n.ensures)
 
 pub slice_bounds-write_all-end : goal.slice_bounds-write_all-end
-slice_bounds-write_all-end _ c = simp length-set (omega (
-  arith,
-  c.requires.0,
-  room_of c.print-n.ensures,
-  c.print-n.auto,
-))
-
-pub slice_bounds-write_all-end-2 : goal.slice_bounds-write_all-end-2
-slice_bounds-write_all-end-2 _ c = simp (length-take, length-set)
-    (omega (
-      arith,
-      c.requires.0,
-      room_of c.print-n.ensures,
-      c.print-n.auto,
-    ))
+slice_bounds-write_all-end _ c = simp (length-take, length-set) (omega (arith, room_of c.print-n.ensures))
 
 pub returns : goal.returns
-returns _ c = fed c.print-n.ensures
-    (omega (
-      arith,
-      c.requires.0,
-      room_of
-          c.print-n.ensures,
-      c.print-n.auto,
-    )) (omega arith)
+returns _ c = fed c.print-n.ensures (omega (arith, room_of c.print-n.ensures)) (omega arith)

@@ -5,6 +5,4 @@ use Rattle.events.specs.Input.{started, TookSome}
 use Rattle.events.proofs.input.read_lines.Given as goal
 
 abbrev pub invariant-loop : goal.invariant-loop
-invariant-loop _ l =
-    (length l.store ≡ length l.initial.store) × (length l.line ≡ length l.initial.line) × (length l.out ≡ length l.initial.out)
-    × TookSome (started l.initial.store) l.kept l.line l.store l.lists
+invariant-loop _ l = (length l.store ≡ length l.initial.store) × TookSome (started l.initial.store) l.line.kept l.line.bytes l.store l.lists

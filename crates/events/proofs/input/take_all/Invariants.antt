@@ -7,6 +7,6 @@ use Rattle.events.proofs.input.take_all.Given as goal
 
 abbrev pub invariant-loop-b : goal.invariant-loop-b
 invariant-loop-b _ l =
-    (length l.store ≡ length l.initial.store) × (length l.line ≡ length l.initial.line) × (length l.out ≡ length l.initial.out)
+    (length l.store ≡ length l.initial.store)
     × (l.b-index ≤ length l.bytes)
-    × ((p : Reading) → Held l.initial.now l.initial.line l.initial.store l.initial.lists p → TookAll p (take l.b-index l.bytes) l.now l.line l.store l.lists)
+    × ((p : Reading) → Held l.initial.line.kept l.initial.line.bytes l.initial.store l.initial.lists p → TookAll p (take l.b-index l.bytes) l.line.kept l.line.bytes l.store l.lists)
