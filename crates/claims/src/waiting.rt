@@ -139,8 +139,7 @@ fn fail_claim(
         return c;
     }
     let x = c * KEY;
-    let y = out.len();
-    let r = failing::failed_with_parents(s, k, n, clock, &mut out[x..y]);
+    let r = failing::failed_with_parents(s, k, n, clock, &mut out[x..]);
     c + r
 }
 

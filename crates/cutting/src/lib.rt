@@ -87,7 +87,7 @@ fn count_less(s: &mut [u8], x: u64, d: u64)
     );
 }
 
-// The candidate of the connection n goes from every request under the keys from `from` to `to` that it does not own.
+// The candidate of the connection n goes from every request under the keys from `from` to `to`, both with it, that it does not own.
 pub fn cut_between(s: &mut [u8], n: u64, from: ident::Key, to: ident::Key)
     requires { Kept s.old }
     ensures { Makes s.old s.new (λ t. Unit {0}) (cuts n (between (key_num from) (key_num to))) }

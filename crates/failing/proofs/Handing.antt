@@ -69,25 +69,22 @@ module _ (u u₁ : List ℕ) (k : Key) (y : ℕ) (e : u₁ ≡ splice u (key_byt
 
 -- ---- the hashes of a list's front
 
-pub hashes_first : (list : List ℕ) (m a : ℕ) → a ≡ m * hash_bytes → hash_bytes * m ≤ length list → hashes_in (take (a - 0) (drop 0 list)) ≡ first_hashes m list
+pub hashes_first : (list : List ℕ) (m a : ℕ) → a ≡ m * hash_bytes → hash_bytes * m ≤ length list → hashes_in (take a list) ≡ first_hashes m list
 unfolding hashes_in
 hashes_first list m a q h =
-    let e : a - 0 ≡ hash_bytes * m = omega arith in
+    let e : a ≡ hash_bytes * m = omega arith in
     let l : length (take (hash_bytes * m) list) ≡ hash_bytes * m = length-take-le (hash_bytes * m) list h in
     let d : length (take (hash_bytes * m) list) / hash_bytes ≡ m = omega arith in
     rw (e, d) (recs-take hash_bytes (number 256) m list h)
 
-pub hashes_few : (list : List ℕ) (m a : ℕ) → a ≡ m * hash_bytes → hash_bytes * m ≤ length list → length (hashes_in (take (a - 0) (drop 0 list))) ≡ m
+pub hashes_few : (list : List ℕ) (m a : ℕ) → a ≡ m * hash_bytes → hash_bytes * m ≤ length list → length (hashes_in (take a list)) ≡ m
 hashes_few list m a q h = ap length (hashes_first list m a q h) ∙ length-recs hash_bytes (number 256) m list
 
 module _ (list : List ℕ) (m a : ℕ) (q : a ≡ m * hash_bytes) (few : m ≤ max_parents) (room : hash_bytes * max_parents ≤ length list) where
-  pub few_first : length (hashes_in (take (a - 0) (drop 0 list))) ≤ max_parents
+  pub few_first : length (hashes_in (take a list)) ≤ max_parents
   few_first = omega (arith, hashes_few list m a q (omega arith))
 
-  pub room_first : (u : List ℕ) → key_bytes * (max_parents + 1) ≤ length u → key_bytes * (length (hashes_in (take (a - 0) (drop 0 list))) + 1) ≤ length u
-  room_first u h = omega (arith, hashes_few list m a q (omega arith))
-
-  pub first_are : (hs : List ℕ) → first_hashes m list ≡ hs → hashes_in (take (a - 0) (drop 0 list)) ≡ hs
+  pub first_are : (hs : List ℕ) → first_hashes m list ≡ hs → hashes_in (take a list) ≡ hs
   first_are hs e = hashes_first list m a q (omega arith) ∙ e
 
 -- ---- failed_with_parents

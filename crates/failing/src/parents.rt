@@ -51,5 +51,5 @@ pub fn parents_for<'a>(s: &[u8], k: ident::Key, n: Connection, list: &'a mut [u8
 {
     let count = copy_parents_for(s, k, n, list);
     let end = count * ident::HASH_BYTES;
-    &list[0..end]
+    &list[..end]
 }

@@ -104,8 +104,7 @@ fn take_turn(
     }
     cut_listed(s, n.number, out, p.from, i);
     let x = own * KEY;
-    let y = out.len();
-    let parents = handing::drop_owned(s, k, n, clock, &mut out[x..y], p.parents);
+    let parents = handing::drop_owned(s, k, n, clock, &mut out[x..], p.parents);
     Progress {
         from: i + 1,
         parents,
