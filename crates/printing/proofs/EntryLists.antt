@@ -56,12 +56,6 @@ module _ {s s' : List ℕ} {a r : ℕ} where
       → Wrote s s' a (key_text (record { kind = k; hash = hash_num h })) r
   key_of_hash k v w = rw (← hash_is v) w
 
-  pub as_kind : {t : List ℕ} {k l : ItemKind} → k ≡ l → item_kind_text l ≡ t → Wrote s s' a t r → Wrote s s' a (item_kind_text k) r
-  as_kind {t} {k} {l} e f w = rw (e, f) w
-
-  pub as_bool : {b c : Bool} → b ≡ c → Wrote s s' a (44 ∷ bool_text c) r → Wrote s s' a (44 ∷ bool_text b) r
-  as_bool e w = rw e w
-
 module _ {s : List ℕ} {a : ℕ} {s₁ s₂ : List ℕ} {e r : ℕ} where
   pub wrote-number : (n : ℕ) → a + number_room ≤ length s → Wrote s s₁ a (44 ∷ []) e → Wrote s₁ s₂ e (decimal n) r → Wrote s s₂ a (44 ∷ decimal n) r
   wrote-number n h p q = wrote_more p q (omega (arith, p.next, length-numeral 10 decimal_digits n))

@@ -14,7 +14,7 @@ use Rattle.lent_lists.specs.Lists.{key_in, keys_in}
 use Rattle.machine.specs.Text.{hash_digits, key_text, joined}
 use Rattle.lines.specs.Text.{Wrote}
 use Rattle.machine.proofs.Numerals.{length-numeral}
-use borrow.Author.Tests.{eq-eqb, ne_eqb, eqb-true, eqb-false}
+use borrow.Author.Tests.{ne_eqb, eqb-true, eqb-false}
 use Rattle.machine.proofs.Tests.{by_test}
 use Rattle.lines.proofs.Writing.{wrote_more, wrote_none}
 use Rattle.printing.specs.Replies.{listed, key_texts}
@@ -65,9 +65,6 @@ first_joined u = refl
 pub key-length : (k : Key) → length (key_text k) ≤ 1 + hash_digits
 unfolding key_text
 key-length k = omega (arith, length-numeral 16 hash_digits k.hash)
-
-pub next_first : {t s s' : List ℕ} {a r i : ℕ} → i ≡ 0 → Wrote s s' a t r → Wrote s s' a (next_text i t) r
-next_first {i = i} e p = rw (eq-eqb i 0 e) p
 
 pub next_key : (k : Key) {s s₁ s₂ : List ℕ} {a e r i : ℕ} → (i ≡ 0 → ⊥) → a + (2 + hash_digits) ≤ length s → Wrote s s₁ a (44 ∷ []) e → Wrote s₁ s₂ e (key_text k) r
     → Wrote s s₂ a (next_text i (key_text k)) r
