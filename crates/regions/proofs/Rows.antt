@@ -1,11 +1,17 @@
 -- Hashes, rows and entries of connections, read and written as the code does it.
 use Prim.Native.Nat.{ℕ, ◌+◌, ◌*◌, ◌%◌, ◌≤◌, ◌<◌}
-use mathlib.Core.Path.{◌≡◌, refl, ◌∙◌}
+use mathlib.Core.Path.{◌≡◌, refl, sym, ◌∙◌}
+use mathlib.Core.Bool.{true, false}
+use borrow.Author.Tests.{eqb-true, eqb-false}
+use Rattle.std.specs.Prelude as std
+use Rattle.std.specs.Prelude.{None, Some}
+use Rattle.std.specs.Option.{MatchOption, unwrap_or}
+use Rattle.regions.specs.Order.{First}
 use mathlib.Core.List.{List, append_assoc}
 use native.Mathlib.Nat.{add-zero, mul_comm}
 use native.Mathlib.Numerals.{towards_suc}
 use native.Mathlib.Omega.{arith}
-use lib.Dec.{lit<}
+use lib.Dec.{lit<, eqb}
 use lib.ListN.{length, take, drop, get_or, set}
 use lib.Seq.{sets-eq, get_or-drop, get_or-take}
 use Rattle.ident.specs.declared.Kind.{Kind}
@@ -77,3 +83,23 @@ unfolding read_row
 key-read w i o p q =
     let at : (j : ℕ) → j < row_size → get_or (take row_size (drop (row_size * i) w)) j 0 ≡ get_or w (i * row_size + j) 0 = word_in w row_size i in
     rw (o, p, q) (simp (get_or-drop, at 0 (lit< tt), at 1 (lit< tt), at 2 (lit< tt), at 3 (lit< tt), at 8 (lit< tt)))
+
+-- the first that is found among them, or to
+pub first_found : (w : List ℕ) {from to c r : ℕ} → from ≤ to → (o : std.Option ℕ)
+    → MatchOption o ((k : ℕ) → from ≤ k → k < to → eqb (get_or w (k * row_size + 4) 0) c ≡ false)
+    (λ i. (from ≤ i) × (i < to) × (eqb (get_or w (i * row_size + 4) 0) c ≡ true) × ((k : ℕ) → from ≤ k → k < i → eqb (get_or w (k * row_size + 4) 0) c ≡ false))
+    → r ≡ unwrap_or o to → First (recs row_size row_conn to w) from to c r
+first_found w {from} {to} {c} h None p e = rw e (record {
+  least = h;
+  most = omega arith;
+  found = λ l. absurd (omega arith);
+  none = λ j a b z. eqb-false (get_or w (j * row_size + 4) 0) c (p j a b) (sym (row-conn_at w to j b) ∙ z);
+})
+first_found w {from} {to} {c} h (Some i) p e =
+    let l : i < to = p.1 in
+    rw e (record {
+      least = p.0;
+      most = omega arith;
+      found = λ _. row-conn_at w to i l ∙ eqb-true (get_or w (i * row_size + 4) 0) c p.2;
+      none = λ j a b z. eqb-false (get_or w (j * row_size + 4) 0) c (p.3 j a b) (sym (row-conn_at w to j (omega arith)) ∙ z);
+    })

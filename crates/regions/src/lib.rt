@@ -435,10 +435,7 @@ pub fn find_conn_in(s: &[u8], from: usize, to: usize, c: u64) -> usize
     requires { (from ≤ to) × (8 * (row_size * to) ≤ length s.now) }
     ensures { First (recs row_size row_conn to (words s.now)) from to c result }
 {
-    for i in from..to {
-        if words::get(s, i * ROW + 4) == c {
-            return i;
-        }
-    }
-    to
+    (from..to)
+        .find(|&i| words::get(s, i * ROW + 4) == c)
+        .unwrap_or(to)
 }

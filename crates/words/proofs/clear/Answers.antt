@@ -1,7 +1,6 @@
 use borrow.Author.Rules.{rules}
 use native.Mathlib.Omega.{arith}
 use Prim.Native.Nat.{◌+◌, ◌<◌}
-use mathlib.Core.Path.{◌≡◌}
 use lib.ListN.{length}
 use Rattle.words.specs.Words.{words}
 use Rattle.words.proofs.Words.{length-words}
@@ -16,8 +15,3 @@ loop-k-preserved c =
     let a = c.args in
     let h : a.a + c.loop-k.k < length (words a.s.now) = omega (arith, length-words a.s.now) in
     (search rules, search rules, clear_turn (words a.s.now) a.a c.loop-k.k h c.loop-k.invariant.2 c.put.ensures.word)
-
-pub returns : goal.returns
-returns c =
-    let e : c.loop-k.k ≡ c.args.d = omega arith in
-    rw e at c.loop-k.invariant.2

@@ -1,7 +1,7 @@
 use borrow.Author.Rules.{rules}
 use native.Mathlib.Omega.{arith}
 use Prim.Native.Nat.{◌+◌, ◌<◌}
-use mathlib.Core.Path.{◌≡◌, sym}
+use mathlib.Core.Path.{sym}
 use lib.ListN.{length}
 use Rattle.words.specs.Words.{words}
 use Rattle.words.proofs.Words.{length-words}
@@ -17,8 +17,3 @@ loop-k-preserved c =
     let w = words a.s.now in
     let h : c.loop-k.k + a.d < length w = omega (arith, length-words a.s.now) in
     (search rules, search rules, down_turn a.d w 0 c.loop-k.k (omega arith) h c.loop-k.invariant.2 c.get-v.ensures c.put.ensures.word)
-
-pub returns : goal.returns
-returns c =
-    let e : c.loop-k.k ≡ c.args.m = omega arith in
-    rw e at c.loop-k.invariant.2

@@ -1,7 +1,7 @@
 use borrow.Author.Rules.{rules}
 use native.Mathlib.Omega.{arith}
 use Prim.Native.Nat.{◌+◌, ◌≤◌}
-use mathlib.Core.Path.{◌≡◌, sym}
+use mathlib.Core.Path.{sym}
 use lib.ListN.{length}
 use Rattle.words.specs.Words.{words}
 use Rattle.words.proofs.Words.{length-words}
@@ -21,8 +21,3 @@ loop-k-preserved c =
       up_turn a.d w c.loop-k.k a.m (omega arith) (omega arith) h (omega arith) c.loop-k.invariant.2 c.get-v.ensures
           c.put.ensures.word,
     )
-
-pub returns : goal.returns
-returns c =
-    let e : c.loop-k.k ≡ 0 = omega arith in
-    rw e at c.loop-k.invariant.2
