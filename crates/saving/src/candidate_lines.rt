@@ -18,7 +18,7 @@ fn next_item(out: &mut [u8], at: usize, r: regions::Row) -> usize
         (44 ∷ item_field short (record { kind = item_kind_as (kind_is (r.bits % 2)) (r.bits / 2 % 2); hash = quad_number r.hash })) result }
 {
     let from = put_text(out, at, b",");
-    let e = put_letter(out, from, r.kind() == ident::Kind::Wtxid, r.is_witness());
+    let e = put_letter(out, from, r.kind(), r.is_witness());
     put_hash(out, e, r.hash)
 }
 

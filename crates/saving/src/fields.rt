@@ -8,13 +8,18 @@ ghost use Rattle.std.specs.Prelude.{◌≡◌, ◌+◌, ◌≤◌, ◌∷◌, le
 ghost use Rattle.ident.specs.Words.{hash_num, key_num};
 ghost use Rattle.regions.specs.Rows.{quad_number};
 ghost use Rattle.machine.specs.Table.{one};
-ghost use Rattle.store.specs.Gather.{kind_is, item_kind_as};
+ghost use Rattle.store.specs.Gather.{item_kind_as};
 ghost use Rattle.machine.specs.Text.{decimal_digits, decimal, hash_digits, hexadecimal, bool_text, item_kind_text};
 ghost use Rattle.machine.specs.Listing.{short, maybe_fields, key_field, owner_fields};
 ghost use Rattle.package_stages.specs.Changes.{owner_as};
 ghost use Rattle.saving.specs.Laid.{Lays, farthest, number_room, hash_room, key_room, owner_room, behind};
 
 use lines::write::{kind_letter, put_bytes};
+
+// The digits of the largest number, and of a hash.
+const NUMBER_DIGITS: usize = 20;
+
+const HASH_DIGITS: usize = 64;
 
 pub fn put_text(out: &mut [u8], at: usize, t: &[u8]) -> usize
     requires { at + length t.now ≤ farthest }
@@ -31,7 +36,7 @@ pub fn put_number(out: &mut [u8], at: usize, n: u64) -> usize
     requires { at + decimal_digits ≤ farthest }
     ensures { (result ≤ at + decimal_digits) × Lays out.old out.new at (decimal n) result }
 {
-    let mut t = [0u8; 20];
+    let mut t = [0; NUMBER_DIGITS];
     let e = lines::write::put_decimal(&mut t, 0, n);
     put_text(out, at, &t[..e])
 }
@@ -40,7 +45,7 @@ pub fn put_hash(out: &mut [u8], at: usize, q: regions::Quad) -> usize
     requires { at + hash_digits ≤ farthest }
     ensures { (result ≤ at + hash_digits) × Lays out.old out.new at (hexadecimal (quad_number q)) result }
 {
-    let mut t = [0u8; 64];
+    let mut t = [0; HASH_DIGITS];
     let e = lines::write::put_hash(&mut t, 0, q);
     put_text(out, at, &t[..e])
 }
@@ -53,15 +58,15 @@ pub fn put_key(out: &mut [u8], at: usize, k: ident::Key) -> usize
     put_hash(out, e, regions::Quad::from(k.hash))
 }
 
-// The letter of an item, by whether its key is a Wtxid and whether it is v: two bits of a row, as the store packs them. (An `ident::ItemKind` has kinds that no row has.)
-pub fn put_letter(out: &mut [u8], at: usize, wtxid: bool, witness: bool) -> usize
+// The letter of an item, by the kind of its key and whether it is v. (An `ident::ItemKind` has kinds that no row has.)
+pub fn put_letter(out: &mut [u8], at: usize, kind: ident::Kind, witness: bool) -> usize
     requires { at + 1 ≤ farthest }
-    ensures { (result ≡ at + 1) × Lays out.old out.new at (item_kind_text (item_kind_as (kind_is (one wtxid)) (one witness))) result }
+    ensures { (result ≡ at + 1) × Lays out.old out.new at (item_kind_text (item_kind_as kind (one witness))) result }
 {
-    match (wtxid, witness) {
-        (true, _) => put_text(out, at, b"w"),
-        (false, true) => put_text(out, at, b"v"),
-        (false, false) => put_text(out, at, b"t"),
+    match (kind, witness) {
+        (ident::Kind::Wtxid, _) => put_text(out, at, b"w"),
+        (ident::Kind::Txid, true) => put_text(out, at, b"v"),
+        (ident::Kind::Txid, false) => put_text(out, at, b"t"),
     }
 }
 
@@ -94,7 +99,8 @@ pub fn next_bool(out: &mut [u8], at: usize, b: bool) -> usize
     put_text(out, at, b",0")
 }
 
-// An owner and its deadline, if there is one.
+// An owner and its deadline, if there is one. (`none` or what is there: so do `next_time` and `next_cursor`. Each says it in one arm; one function over a closure would ask for a contract of
+// the closure in each, and be no shorter.)
 pub fn next_owner(out: &mut [u8], at: usize, owner: Option<package_stages::Owner>) -> usize
     requires { at + owner_room ≤ farthest }
     ensures { (result ≤ at + owner_room) × Lays out.old out.new at (behind (maybe_fields owner_fields (owner_as owner))) result }

@@ -12,6 +12,7 @@ ghost use Rattle.saving.specs.Laid.{Lays, farthest, number_room, key_room, head_
 
 use crate::fields::{next_number, put_key, put_number, put_text};
 
+// (`none` or what is there, here and in `next_cursor`: see `next_owner` in fields.rt.)
 fn next_time(out: &mut [u8], at: usize, m: Option<u64>) -> usize
     requires { at + number_room ≤ farthest }
     ensures { (result ≤ at + number_room) × Lays out.old out.new at (44 ∷ maybe_field (λ n. decimal n) (time_num m)) result }

@@ -1,7 +1,6 @@
 -- `saving::candidate_lines::next_item` meets its contract.
 use Prim.Native.Nat.{◌/◌}
 use native.Mathlib.Omega.{arith}
-use Rattle.regions.proofs.Bits.{is_wtxid}
 use Rattle.requests.proofs.Pushing.{one_bit}
 use Rattle.saving.proofs.Texts.{item-laid}
 use Rattle.saving.proofs.candidate_lines.next_item.Goals as goal
@@ -15,6 +14,6 @@ returns c = (
     c.put_hash.ensures.0,
   ),
   item-laid _ _
-      c.put_text-from.ensures (rw (c.eq.ensures, c.kind.ensures, is_wtxid c.args.r.bits, one_bit c.args.r.bits, c.is_witness.ensures, one_bit (c.args.r.bits / 2)) at c.put_letter-e.ensures.1)
+      c.put_text-from.ensures (rw (c.kind.ensures, c.is_witness.ensures, one_bit (c.args.r.bits / 2)) at c.put_letter-e.ensures.1)
       c.put_hash.ensures.1,
 )
