@@ -64,7 +64,7 @@ impl<'a> Lines<'a> {
         if self.is_empty() {
             return None;
         }
-        let l = line_at(self.text, self.at, lists.wtxids, lists.parents);
+        let l = line_at(self.text, self.at, lists);
         self.at = l.end;
         Some(l.value)
     }

@@ -1,9 +1,10 @@
 // A line of one of the three forms.
-ghost use Rattle.std.specs.Prelude.{◌≡◌, ◌≤◌, ◌<◌, length};
+ghost use Rattle.std.specs.Prelude.{◌≡◌, ◌<◌, length};
 ghost use Rattle.machine.specs.Fields.{fields};
 ghost use Rattle.machine.specs.Listing.{short, head_of, request_of, candidate_of, line_of};
-ghost use Rattle.listed_lines.specs.Given.{list_room, head_line, request_line, candidate_line, line_in, LineRead};
+ghost use Rattle.listed_lines.specs.Given.{head_line, request_line, candidate_line, line_in, LineRead};
 
+use crate::cursor::Lists;
 use crate::hash_lists::list_at;
 use crate::parts::{Owner, Package, owner_at, package_at};
 use crate::pieces::{first_key, first_number, maybe_key_at, maybe_number_at};
@@ -51,7 +52,7 @@ pub enum Line {
     Candidate(Candidate),
 }
 
-// ---- a line as one of each form, if it is one. (Its two lists are lent apart: `package_at` and `list_at` take one each, and `Lists` is for walks over lines.)
+// ---- a line as one of each form, if it is one.
 
 fn read_head(line: &[u8]) -> Option<Head>
     ensures { head_of short (fields line.now) ≡ head_line result }
@@ -73,15 +74,14 @@ fn read_head(line: &[u8]) -> Option<Head>
     })
 }
 
-fn read_request(line: &[u8], wtxids: &mut [u8], parents: &mut [u8]) -> Option<Request>
-    requires { (list_room ≤ length wtxids.old) × (list_room ≤ length parents.old) }
-    ensures { request_of short (fields line.now) ≡ request_line wtxids.new parents.new result }
+fn read_request(line: &[u8], lists: &mut Lists) -> Option<Request>
+    ensures { request_of short (fields line.now) ≡ request_line lists.new.wtxids.now lists.new.parents.now result }
 {
     let key = first_key(line)?;
     let owner = owner_at(line, key.end)?;
     let info = bool_at(line, owner.end)?;
-    let packed = package_at(line, info.end, wtxids)?;
-    let list = list_at(line, packed.end, 0, parents)?;
+    let packed = package_at(line, info.end, lists.wtxids)?;
+    let list = list_at(line, packed.end, 0, lists.parents)?;
     let mark = bool_at(line, list.end)?;
     if mark.end < line.len() {
         return None;
@@ -118,14 +118,13 @@ fn read_candidate(line: &[u8]) -> Option<Candidate>
 }
 
 // A line of bytes without its line feed. Where it is a request's, its wtxids and parents stand in the lent bytes.
-fn line_in(line: &[u8], wtxids: &mut [u8], parents: &mut [u8]) -> Line
-    requires { (list_room ≤ length wtxids.old) × (list_room ≤ length parents.old) }
-    ensures { line_of short (fields line.now) ≡ line_in wtxids.new parents.new result }
+fn line_in(line: &[u8], lists: &mut Lists) -> Line
+    ensures { line_of short (fields line.now) ≡ line_in lists.new.wtxids.now lists.new.parents.now result }
 {
     if let Some(h) = read_head(line) {
         return Line::Head(h);
     }
-    if let Some(r) = read_request(line, wtxids, parents) {
+    if let Some(r) = read_request(line, lists) {
         return Line::Request(r);
     }
     match read_candidate(line) {
@@ -135,9 +134,9 @@ fn line_in(line: &[u8], wtxids: &mut [u8], parents: &mut [u8]) -> Line
 }
 
 // The line that starts at an index; it ends behind its line feed.
-pub fn line_at(text: &[u8], at: usize, wtxids: &mut [u8], parents: &mut [u8]) -> Parsed<Line>
-    requires { (at < length text.now) × (list_room ≤ length wtxids.old) × (list_room ≤ length parents.old) }
-    ensures { LineRead text.now at wtxids.new parents.new result }
+pub fn line_at(text: &[u8], at: usize, lists: &mut Lists) -> Parsed<Line>
+    requires { at < length text.now }
+    ensures { LineRead text.now at lists.new.wtxids.now lists.new.parents.now result }
 {
     let end = lines::read::find(text, at, b'\n');
     if end == text.len() {
@@ -147,7 +146,7 @@ pub fn line_at(text: &[u8], at: usize, wtxids: &mut [u8], parents: &mut [u8]) ->
         };
     }
     Parsed {
-        value: line_in(&text[at..end], wtxids, parents),
+        value: line_in(&text[at..end], lists),
         end: end + 1,
     }
 }

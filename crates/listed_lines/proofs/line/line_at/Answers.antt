@@ -6,7 +6,7 @@ use Rattle.listed_lines.proofs.line.line_at.Goals as goal
 
 pub returns-then-end-text : goal.returns-then-end-text
 returns-then-end-text c =
-    line_none c.args.text.now c.args.at c.requires.0
+    line_none c.args.text.now c.args.at c.requires
     c.find-end.ensures c.if-end-text.true
 
 pub slice_bounds-line_in-end : goal.slice_bounds-line_in-end
@@ -17,13 +17,13 @@ pub overflow_add-result : goal.overflow_add-result
 overflow_add-result c =
     omega (
       arith,
-      end_most 10 c.args.text.now c.args.at (omega (arith, c.requires.0))
+      end_most 10 c.args.text.now c.args.at (omega (arith, c.requires))
           c.find-end.ensures,
       c.if-end-text.false,
     )
 
 pub returns : goal.returns
 returns c =
-    line_is c.args.text.now c.args.at c.requires.0
+    line_is c.args.text.now c.args.at c.requires
     c.find-end.ensures c.if-end-text.false
     c.line_in.ensures
