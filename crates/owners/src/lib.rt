@@ -94,12 +94,7 @@ fn first_wtxid(s: &[u8]) -> usize
     requires { Kept s.now }
     ensures { Halves s.now result }
 {
-    let hash = regions::Quad {
-        w0: 0,
-        w1: 0,
-        w2: 0,
-        w3: 0,
-    };
+    let hash = regions::Quad::ZERO;
     let kind = ident::Kind::Wtxid;
     store::rows::seek_row(s, Bound::Included(regions::Key { kind, hash }))
 }
