@@ -20,7 +20,7 @@ pub fn drop_dead(s: &mut [u8])
         |p| -> bool
             requires { length p.now ≡ 8 * place_size }
             ensures { (x : Place) → words p.now ≡ place_words x → result ≡ live x }
-        { places::read_head(p, 0).stage != places::DEAD },
+        { places::read_head(p, 0).stage > places::DEAD },
     );
     words::put(s, layout::HELD_PLACES, m as u64);
 }
