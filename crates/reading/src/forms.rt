@@ -29,17 +29,11 @@ pub struct Values {
 fn no_values() -> Values
     ensures { values_of result ≡ blank }
 {
-    let zero = regions::Quad {
-        w0: 0,
-        w1: 0,
-        w2: 0,
-        w3: 0,
-    };
     Values {
         kind: ident::Kind::Txid,
         item: ident::ItemKind::Transaction,
-        hash: zero,
-        combined: zero,
+        hash: regions::Quad::ZERO,
+        combined: regions::Quad::ZERO,
         connection: 0,
         clock: 0,
         ready: 0,
