@@ -207,14 +207,14 @@ module _ (n : ℕ) (w : List ℕ) (i : ℕ) {e : Conn} (h : i < n) (q : e ≡ re
       each_at (x ∷ cs) zero h a = a.0
       each_at (x ∷ cs) (suc j) h a = each_at cs j (omega arith) a.1
 
-  pub charged_turn : (lo : ℕ) (t : List ℕ) {v : ℕ} → lo ≤ i → i - lo < length t → Left [] e v → Within (λ c j. Left [] c (get_or t j 0)) (recs conn_size read_conn n w) lo (i - lo)
-      → Within (λ c j. Left [] c (get_or (set t (i - lo) v) j 0)) (recs conn_size read_conn n w) lo (i + 1 - lo)
-  charged_turn lo t {v} b m s k j z l = elim (test (eqb j (i - lo))) [
+  pub charged_turn : (lo m : ℕ) (t : List ℕ) {v : ℕ} → lo + m ≡ i → m < length t → Left [] e v → Within (λ c j. Left [] c (get_or t j 0)) (recs conn_size read_conn n w) lo m
+      → Within (λ c j. Left [] c (get_or (set t m v) j 0)) (recs conn_size read_conn n w) lo (m + 1)
+  charged_turn lo m t {v} b f s k j z l = elim (test (eqb j m)) [
     | inl d ↦
-        let d' : j ≡ i - lo = eqb-true j (i - lo) d in
+        let d' : j ≡ m = eqb-true j m d in
         let g : lo + j ≡ i = omega arith in
-        rw (g, d', get_or-set_same t (i - lo) v 0 m) (rw entry-at at s)
-    | inr d ↦ let d' = eqb-false j (i - lo) d in rw (get_or-set_other t (i - lo) j v 0 d') (k j (omega (arith, d')) l)
+        rw (g, d', get_or-set_same t m v 0 f) (rw entry-at at s)
+    | inr d ↦ let d' = eqb-false j m d in rw (get_or-set_other t m j v 0 d') (k j (omega (arith, d')) l)
   ]
 
 pub zero_turn : (t : List ℕ) (m : ℕ) → ((j : ℕ) → j < m → get_or t j 0 ≡ 0) → get_or t m 0 ≡ 0 → (j : ℕ) → j < m + 1 → get_or t j 0 ≡ 0

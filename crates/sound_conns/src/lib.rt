@@ -95,24 +95,20 @@ fn charge(c: Conn) -> u32
     c.held as u32 + c.owned as u32 * HALF
 }
 
-// Gives the pass's entries their counters, as far as there are any. (By the entry's index, of which `Within` speaks; its counter stands at j.)
+// Gives the pass's entries their counters, as far as there are any.
 fn charge_all(pass: Pass, t: &mut [u32])
     requires { Each ConnFits (recs conn_size read_conn pass.conns.count (words pass.conns.bytes.now)) }
     ensures { Within (λ c j. Left [] c (get_or t.new j 0)) (recs conn_size read_conn pass.entry.conns.count (words pass.entry.conns.bytes.now)) pass.entry.lo (length t.old)
         × (length t.new ≡ length t.old) }
 {
-    for i in pass.lo..pass.conns.count {
-        let j = i - pass.lo;
-        if j >= t.len() {
-            return;
-        }
-        let c = pass.conns.get(i);
+    for j in 0..t.len().min(pass.conns.count - pass.lo) {
+        let c = pass.conns.get(pass.lo + j);
         t[j] = charge(c);
     }
 }
 
-// Takes a row off the counter of the entry k, and one that owns its request if `own` is 1, if k is among those from lo on. False if
-// less than that is left.
+// Takes a row off the counter of the entry k, and one that owns its request if `own` is 1 (a number: it is compared and subtracted), if k
+// is among those from lo on. False if less than that is left.
 fn take_off(t: &mut [u32], lo: usize, k: usize, own: u32) -> bool
     requires { own ≤ 1 }
     ensures { Lessening result t.old t.new lo k own × (length t.new ≡ length t.old) }

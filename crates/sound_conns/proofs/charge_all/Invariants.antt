@@ -1,4 +1,3 @@
-use Prim.Native.Nat.{◌-◌, ◌≤◌}
 use mathlib.Core.Path.{◌≡◌}
 use mathlib.Core.List.{[]}
 use lib.ListN.{length, get_or}
@@ -7,6 +6,6 @@ use Rattle.regions.specs.Rows.{conn_size, read_conn}
 use Rattle.sound_conns.specs.Conns.{Left, Within}
 use Rattle.sound_conns.proofs.charge_all.Given as goal
 
-abbrev pub invariant-loop-i : goal.invariant-loop-i
-invariant-loop-i l = (l.pass.lo ≤ l.i) × (l.i - l.pass.lo ≤ length l.t) × (length l.t ≡ length l.initial.t)
-    × Within (λ e j. Left [] e (get_or l.t j 0)) (recs conn_size read_conn l.pass.conns.count (words l.pass.conns.bytes.now)) l.pass.lo (l.i - l.pass.lo)
+abbrev pub invariant-loop-j : goal.invariant-loop-j
+invariant-loop-j l = (length l.t ≡ length l.initial.t)
+    × Within (λ e j. Left [] e (get_or l.t j 0)) (recs conn_size read_conn l.pass.conns.count (words l.pass.conns.bytes.now)) l.pass.lo l.j
