@@ -27,8 +27,18 @@ pub mod near;
 pub mod ranges;
 mod row_bits; // row_bits.rt: a row's key, and what its bits say
 
-// Words of a row.
+// Words of a row, and where behind its hash they stand.
 pub const ROW: usize = 9;
+
+const CONN_AT: usize = 4;
+
+const READY_AT: usize = 5;
+
+const PRIO_AT: usize = 6;
+
+const DEADLINE_AT: usize = 7;
+
+const BITS_AT: usize = 8;
 
 // Words of a connection's entry.
 pub const CONN: usize = 3;
@@ -292,21 +302,21 @@ impl WholeRecord for Row {
     fn read_at(s: &[u8], a: usize) -> Row {
         Row {
             hash: read_quad(s, a),
-            conn: words::get(s, a + 4),
-            ready: words::get(s, a + 5),
-            prio: words::get(s, a + 6),
-            deadline: words::get(s, a + 7),
-            bits: words::get(s, a + 8),
+            conn: words::get(s, a + CONN_AT),
+            ready: words::get(s, a + READY_AT),
+            prio: words::get(s, a + PRIO_AT),
+            deadline: words::get(s, a + DEADLINE_AT),
+            bits: words::get(s, a + BITS_AT),
         }
     }
 
     fn write_at(self, s: &mut [u8], a: usize) {
         write_quad(s, a, self.hash);
-        words::put(s, a + 4, self.conn);
-        words::put(s, a + 5, self.ready);
-        words::put(s, a + 6, self.prio);
-        words::put(s, a + 7, self.deadline);
-        words::put(s, a + 8, self.bits);
+        words::put(s, a + CONN_AT, self.conn);
+        words::put(s, a + READY_AT, self.ready);
+        words::put(s, a + PRIO_AT, self.prio);
+        words::put(s, a + DEADLINE_AT, self.deadline);
+        words::put(s, a + BITS_AT, self.bits);
     }
 
     ghost laws = { row_whole };
@@ -368,7 +378,7 @@ pub fn key_at(s: &[u8], i: usize) -> Key
     ensures { result ≡ key_of (read_row (take row_size (drop (row_size * i) (words s.now)))) }
 {
     let a = i * ROW;
-    let kind = ident::Kind::from(words::get(s, a + 8) % 2);
+    let kind = ident::Kind::from(words::get(s, a + BITS_AT) % 2);
     let hash = read_quad(s, a);
     Key { kind, hash }
 }
@@ -436,6 +446,6 @@ pub fn find_conn_in(s: &[u8], from: usize, to: usize, c: u64) -> usize
     ensures { First (recs row_size row_conn to (words s.now)) from to c result }
 {
     (from..to)
-        .find(|&i| words::get(s, i * ROW + 4) == c)
+        .find(|&i| words::get(s, i * ROW + CONN_AT) == c)
         .unwrap_or(to)
 }
