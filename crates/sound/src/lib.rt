@@ -12,7 +12,7 @@ use places::PLACE;
 use regions::listed::Records;
 use regions::{CONN, Conn, ROW, Row};
 use store::head::{self, HEAD};
-use store::layout::{FORMAT, KNOWN, NEXT_POLL, READY};
+use store::layout::{FORMAT, FORMAT_NUMBER, KNOWN, NEXT_POLL, READY};
 
 mod owner; // owner.rt: the owner of a place
 mod place; // place.rt: package places
@@ -57,7 +57,7 @@ fn sizes_fit(s: &[u8]) -> bool
 {
     let l = head::limit(s);
     let q = head::places(s);
-    words::get(s, FORMAT) == 1
+    words::get(s, FORMAT) == FORMAT_NUMBER
         && l != 0
         && l as u64 <= MAX_ANNOUNCEMENTS
         && q != 0

@@ -116,6 +116,7 @@ fn padded(p: &[u8], m: usize, n: usize) -> bool
 }
 
 // Whether the words of one place write it out, and it is fit. The rows of its key are guessed to begin at the i-th.
+// (A slice of just a place's bytes: to make an array of a part of the region is a test of its length, with a case that never is.)
 fn place_fits(p: &[u8], rows: Records<Row>, slots: &mut [u16; SLOTS], mark: u16, i: usize) -> bool
     requires { length p.now ≡ 8 * place_size }
     ensures { RowsSound (recs row_size read_row rows.entry.count (words rows.entry.bytes.now))

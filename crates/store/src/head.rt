@@ -69,7 +69,7 @@ pub fn fill(s: &mut [u8], l: usize, q: usize)
     ensures { Writes s.new (empty l q) }
 {
     words::clear(s, 0, s.len() / 8);
-    words::put(s, layout::FORMAT, 1);
+    words::put(s, layout::FORMAT, layout::FORMAT_NUMBER);
     words::put(s, layout::LIMIT, l as u64);
     words::put(s, layout::PLACES, q as u64);
 }

@@ -28,6 +28,9 @@ pub const KNOWN: usize = 8;
 
 pub const READY: usize = 13;
 
+// The number of this format, which the word at FORMAT holds.
+pub const FORMAT_NUMBER: u64 = 1;
+
 // The bytes of the rows.
 pub fn rows_part(s: &[u8]) -> Range<usize>
     requires { Shown s.now }
