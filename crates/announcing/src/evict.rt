@@ -28,7 +28,8 @@ fn passed(best: Option<regions::Row>, r: regions::Row) -> bool
     stays(r) | best.is_some_and(|row| r.prio < row.prio)
 }
 
-// Whether a comes after b by key and connection.
+// Whether a comes after b by key and connection. (By `key_less`, whose clause is of the keys' numbers, as this one's: a tuple's `<` would need the law of the keys' derived
+// order here.)
 fn key_after(a: regions::Row, b: regions::Row) -> bool
     ensures { result ≡ key_after a b }
 {
@@ -135,7 +136,7 @@ pub fn evictable(s: &[u8]) -> u64
 
 // ---- the victim's key
 
-// The key of a row's request.
+// The key of a row's request. (No `From` beside the others in `regions`: this clause is of the machine's key, which `store` defines above it.)
 pub fn key_of(r: regions::Row) -> ident::Key
     ensures { key_num result ≡ key_at r }
 {

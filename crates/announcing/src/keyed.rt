@@ -45,7 +45,7 @@ pub fn crowded(s: &[u8], h: ident::Hash) -> bool
     requests::candidates_at(s, h) >= store::head::alternates(s)
 }
 
-// L announcements are held.
+// L announcements are held. (`gathering`, which stands above, tests it with those that wait beside the store.)
 #[tactic(auto, using(crate::proofs::Lent::kept_long))]
 fn full(s: &[u8]) -> bool
     requires { Kept s.now }

@@ -1,5 +1,5 @@
 -- One owner expires, where the places are set apart: with a place or without, and what is noted of all places.
-use Prim.Native.Nat.{ℕ, zero, suc, ◌+◌, ◌-◌, ◌≤◌, ◌<◌}
+use Prim.Native.Nat.{ℕ, zero, suc, ◌+◌, ◌≤◌, ◌<◌}
 use mathlib.Core.Path.{◌≡◌, refl, sym, ap, subst, ◌∙◌}
 use mathlib.Core.Logic.{inl, inr}
 use mathlib.Core.Bool.{Bool, true, false}
@@ -33,7 +33,6 @@ use Rattle.package_stages.specs.Records.{place_hashes}
 use Rattle.package_stages.specs.Changes.{has_place}
 use Rattle.package_stages.specs.Dead.{filter, live}
 use Rattle.package_stages.proofs.Seeking.{hash_at_lem}
-use Rattle.requests.specs.Changes.{Tells}
 use Rattle.failing.proofs.Leaving.{told}
 use Rattle.announcing.specs.Answers.{Answered}
 use Rattle.std.specs.Prelude as rust
@@ -49,7 +48,7 @@ use Rattle.apart.proofs.BareTable.{sound-bare}
 use Rattle.apart.proofs.BareChange.{failed-bare}
 use Rattle.apart.proofs.BarePlaces.{no_place, txid-free}
 use Rattle.apart.proofs.BareExpiry.{no-parents, bounded-after, places_unheld}
-use Rattle.apart.proofs.Overdue.{front_lent, front_is, rest_stays, slots_rest, none_packaged, filter_from}
+use Rattle.apart.proofs.Overdue.{front_is, rest_stays, slots_rest, none_packaged, filter_from}
 use Rattle.apart.proofs.SpentStill.{victims-bare, spent-failed}
 
 -- ---- what the functions ask for
@@ -57,9 +56,6 @@ use Rattle.apart.proofs.SpentStill.{victims-bare, spent-failed}
 module _ {b f : List ℕ} {m : ℕ} {st : State} {xs : List Slot} (o : Apart b f m st xs) where
   pub front_kept : Kept (take m b)
   front_kept = record { state = bare_state st; sound = sound-bare o.sound; writes = o.writes }
-
-  pub lent_kept : Kept (take (m - 0) (drop 0 b))
-  lent_kept = subst Kept (sym (front_lent b m)) front_kept
 
   pub front_within : m ≤ length b
   front_within = omega (arith, o.long)
@@ -74,12 +70,12 @@ module _ {b f : List ℕ} {m : ℕ} {st : State} {xs : List Slot} (o : Apart b f
   few_parents {r = r} h = let x = each_at (λ p. length p.parents ≤ list_most) (plain xs) r.at (blank 0 0) o.short h.inside in omega (arith, h.parents (blank 0 0))
 
   pub lapsed_kept : {k : Key} {r : Spot} → SpotHeld (plain xs) k r → {n now : ℕ} → now < word → k.hash < top → {b₂ f₂ : List ℕ} → LapsedTo b₂ f₂ m st xs r k n now
-      → Kept (take (m - 0) (drop 0 b₂))
-  lapsed_kept {k} {r} h {n} {now} late small {b₂} g = subst Kept (sym (front_lent b₂ m)) (record {
+      → Kept (take m b₂)
+  lapsed_kept {k} {r} h {n} {now} late small {b₂} g = record {
     state = bare_state (on_table (failed k n now st.table).table st);
     sound = sound-bare (sound-table o.sound (bounded-failed k n now small late o.sound.bounded));
     writes = g.writes;
-  })
+  }
 
   -- nobody can be evicted
 
@@ -87,12 +83,11 @@ module _ {b f : List ℕ} {m : ℕ} {st : State} {xs : List Slot} (o : Apart b f
   front_spent e i = sym (victims-bare st.table) ∙ e i (bare_state st) (sound-bare o.sound) o.writes
 
   pub lapsed-spent : {k : Key} {r : Spot} {n now : ℕ} → now < word → k.hash < top → {b₂ f₂ : List ℕ} → LapsedTo b₂ f₂ m st xs r k n now → {x : Bool} → Exhausted (take m b) x
-      → Exhausted (take (m - 0) (drop 0 b₂)) x
+      → Exhausted (take m b₂) x
   lapsed-spent {k} {r} {n} {now} late small {b₂} g e i =
       let t = (failed k n now st.table).table in
-      subst (λ (z : List ℕ). Tells z Spent) (sym (front_lent b₂ m))
-      (told Spent (bare_state (on_table t st)) (sound-bare (sound-table o.sound (bounded-failed k n now small late o.sound.bounded))) g.writes
-      (victims-bare t ∙ spent-failed n now o.sound.bounded k small (front_spent e i)))
+      told Spent (bare_state (on_table t st)) (sound-bare (sound-table o.sound (bounded-failed k n now small late o.sound.bounded))) g.writes
+      (victims-bare t ∙ spent-failed n now o.sound.bounded k small (front_spent e i))
 
 -- ---- what is noted
 
@@ -283,9 +278,9 @@ module _ {b f : List ℕ} {m : ℕ} {st : State} {xs : List Slot} (o : Apart b f
   unfolding announce_parents dedup parents_from
   alone = ap (λ (hs : List ℕ). announce_parents (limits_of st) n now hs (failed k n now t).table) (no-parents n (at k t) free)
 
-  pub expired-without : {v : List ℕ} {reply : Bool} {b' : List ℕ} → length v ≡ length (take (m - 0) (drop 0 b)) → Answered (take (m - 0) (drop 0 b)) v reply (λ l x.
+  pub expired-without : {v : List ℕ} {reply : Bool} {b' : List ℕ} → length v ≡ length (take m b) → Answered (take m b) v reply (λ l x.
       failed k n now x)
-      → length b' ≡ length b → b' ≡ take 0 b ++ (v ++ drop (m - 0) (drop 0 b)) → {q : Progress} → Exhausted (take m b) q.spent → ExpiredTo b' f m st xs k n now q q
+      → length b' ≡ length b → b' ≡ v ++ drop m b → {q : Progress} → Exhausted (take m b) q.spent → ExpiredTo b' f m st xs k n now q q
   expired-without {v} {b' = b'} nv ans nb e given = record {
     places = xs;
     apart = record {
@@ -294,7 +289,7 @@ module _ {b f : List ℕ} {m : ℕ} {st : State} {xs : List Slot} (o : Apart b f
       long = nb ∙ o.long;
       first_long = o.first_long;
       writes =
-          let a = ans.table (bare_state st) (sound-bare o.sound) (subst (λ (z : List ℕ). Writes z (bare_state st)) (sym (front_lent b m)) o.writes) in
+          let a = ans.table (bare_state st) (sound-bare o.sound) o.writes in
           subst (λ (y : Listed). Writes (take m b') (bare_state (on_table y.table st))) (sym alone)
           (subst (λ (y : List ℕ). Writes y (bare_state (on_table (failed k n now t).table st))) (sym (ap (take m) e ∙ front_is b v m (front_within o) nv))
           (subst (λ (x : Answer). Writes v (on_table x.table (bare_state st))) (failed-bare k n now t calm) a));

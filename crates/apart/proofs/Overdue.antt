@@ -53,21 +53,18 @@ use Rattle.apart.proofs.Spotting.{ascend_above as ascend-least}
 
 -- ---- the front of a store, lent and come back
 
-pub front_lent : (b : List ℕ) (m : ℕ) → take (m - 0) (drop 0 b) ≡ take m b
-front_lent b m = let e : m - 0 ≡ m = omega arith in ap (λ (n : ℕ). take n b) e
-
-module _ (b v : List ℕ) (m : ℕ) (l : m ≤ length b) (n : length v ≡ length (take (m - 0) (drop 0 b))) where
+module _ (b v : List ℕ) (m : ℕ) (l : m ≤ length b) (n : length v ≡ length (take m b)) where
   abbrev again : List ℕ
-  again = take 0 b ++ (v ++ drop (m - 0) (drop 0 b))
+  again = v ++ drop m b
 
   long : length v ≡ m
-  long = n ∙ ap length (front_lent b m) ∙ length-take-le m b l
+  long = n ∙ length-take-le m b l
 
   pub front_is : take m again ≡ v
-  front_is = take_at v (drop (m - 0) b) m long
+  front_is = take_at v (drop m b) m long
 
   pub rest_stays : drop m again ≡ drop m b
-  rest_stays = drop_at v (drop (m - 0) b) m long ∙ (let e : m - 0 ≡ m = omega arith in ap (λ (i : ℕ). drop i b) e)
+  rest_stays = drop_at v (drop m b) m long
 
 pub slots_rest : {b b' f : List ℕ} {m Q : ℕ} {xs : List Slot} → drop m b' ≡ drop m b → Slots b f m Q xs → Slots b' f m Q xs
 slots_rest {Q = Q} {xs = xs} e s = record {
@@ -228,12 +225,12 @@ module _ {b f : List ℕ} {m : ℕ} {st : State} {xs : List Slot} (o : Apart b f
       slots = subst (λ (x : Bool). Slots b f m st.places (if x then xs else set xs r.at (dying q))) (sym e) o.slots;
     }
 
-    pub lapse-fails : {v : List ℕ} {reply : Bool} {b₁ b₂ f₂ : List ℕ} → eqb r.stage 3 ≡ false → m ≤ length b → length v ≡ length (take (m - 0) (drop 0 b))
-        → Answered (take (m - 0) (drop 0 b)) v reply (λ l x. failed k n now x) → b₁ ≡ take 0 b ++ (v ++ drop (m - 0) (drop 0 b)) → Altered b₁ b₂ f f₂ m r.at dying → LapsedTo b₂ f₂ m st xs r k
+    pub lapse-fails : {v : List ℕ} {reply : Bool} {b₁ b₂ f₂ : List ℕ} → eqb r.stage 3 ≡ false → m ≤ length b → length v ≡ length (take m b)
+        → Answered (take m b) v reply (λ l x. failed k n now x) → b₁ ≡ v ++ drop m b → Altered b₁ b₂ f f₂ m r.at dying → LapsedTo b₂ f₂ m st xs r k
         n now
     lapse-fails {v} {b₁ = b₁} {b₂} {f₂} e l nv ans e₁ kill = record {
       writes =
-          let a = ans.table (bare_state st) (sound-bare o.sound) (subst (λ (z : List ℕ). Writes z (bare_state st)) (sym (front_lent b m)) o.writes) in
+          let a = ans.table (bare_state st) (sound-bare o.sound) o.writes in
           let z : take m b₂ ≡ v = kill.front ∙ ap (take m) e₁ ∙ front_is b v m l nv in
           subst (λ (y : List ℕ). Writes y (bare_state (on_table (failed k n now t).table st))) (sym z)
           (subst (λ (x : Answer). Writes v (on_table x.table (bare_state st))) (failed-bare k n now t (enqueued_is ∙ e)) a);
@@ -267,16 +264,15 @@ module _ {b f : List ℕ} {m : ℕ} {st : State} {xs : List Slot} (o : Apart b f
               (sym (places-without k n now small late o.sound.bounded own (enqueued_is ∙ e) h.kind)))
         ]
 
-        module _ {b₂ f₂ : List ℕ} (g : LapsedTo b₂ f₂ m st xs r k n now) (z : List ℕ) {v : List ℕ} {x : Announced} (loaded : SlotOf z q) (l : m ≤ length b₂) (nv : length v ≡ length (take (m - 0)
-            (drop 0 b₂)))
-            (a : Noted (take (m - 0) (drop 0 b₂)) v n now (hashes_at (words z) 0 r.parents) x) where
+        module _ {b₂ f₂ : List ℕ} (g : LapsedTo b₂ f₂ m st xs r k n now) (z : List ℕ) {v : List ℕ} {x : Announced} (loaded : SlotOf z q) (l : m ≤ length b₂) (nv : length v ≡ length (take m b₂))
+            (a : Noted (take m b₂) v n now (hashes_at (words z) 0 r.parents) x) where
           hashes : hashes_at (words z) 0 r.parents ≡ p.parents
           hashes =
               ap (hashes_at (words z) 0) (h.parents (blank 0 0) ∙ ap (λ (y : Place). length y.parents) p_is)
               ∙ slot_all z q loaded (subst (λ (y : Place). length y.parents ≤ list_most) p_is short) ∙ sym (ap (λ (y : Place). y.parents) p_is)
 
           told : Noted (take m b₂) v n now p.parents x
-          told = rw (front_lent b₂ m, hashes) at a
+          told = rw hashes at a
 
           abbrev after : State
           after = on_table (failed k n now t).table st
@@ -284,7 +280,7 @@ module _ {b f : List ℕ} {m : ℕ} {st : State} {xs : List Slot} (o : Apart b f
           bare_is : parents_from (limits_of st) n now 0 p.parents (bare after.table) ≡ bare_listed (expire_at (limits_of st) now k n t)
           bare_is = parents_from-bare (limits_of st) n now 0 p.parents after.table ∙ ap bare_listed (sym (announced after.table))
 
-          pub place-expired : {b₃ : List ℕ} → length b₃ ≡ length b → length f₂ ≡ length f → b₃ ≡ take 0 b₂ ++ (v ++ drop (m - 0) (drop 0 b₂)) → PlaceExpired b₃ f₂ m st xs r k n now x
+          pub place-expired : {b₃ : List ℕ} → length b₃ ≡ length b → length f₂ ≡ length f → b₃ ≡ v ++ drop m b₂ → PlaceExpired b₃ f₂ m st xs r k n now x
           place-expired {b₃} n₃ nf e₃ = record {
             apart = record {
               sound = sound-table o.sound (bounded-after k n now small late o.sound.bounded own);

@@ -1,5 +1,5 @@
 -- Every owner that is due expires, where no place is set apart: one pass over the rows comes to the same.
-use Prim.Native.Nat.{ℕ, ◌-◌, ◌<◌}
+use Prim.Native.Nat.{ℕ, ◌<◌}
 use mathlib.Core.Path.{◌≡◌, refl, sym, ap, subst, ◌∙◌}
 use mathlib.Core.Bool.{Bool, true, false}
 use mathlib.Core.List.{List, [], ◌∷◌, ◌++◌}
@@ -34,7 +34,7 @@ use Rattle.apart.specs.Apart.{Slot, plain, Apart}
 use Rattle.apart.specs.Silent.{readied_both, ready_each, silenced, Placeless}
 use Rattle.apart.proofs.BareTable.{sound-bare}
 use Rattle.apart.proofs.BarePlaces.{all_from_at, no_place, txid-free}
-use Rattle.apart.proofs.Overdue.{front_lent, front_is, rest_stays, slots_rest}
+use Rattle.apart.proofs.Overdue.{front_is, rest_stays, slots_rest}
 use Rattle.apart.proofs.OneOwner.{front_within}
 use Rattle.apart.proofs.Dropping.{Keyed, Unheld, Packless, ordered_both, expired_at_once, packless_after}
 
@@ -150,8 +150,8 @@ module _ {b f : List ℕ} {m : ℕ} {st : State} {xs : List Slot} (o : Apart b f
   same_after : bare (silenced now t) ≡ silenced now t
   same_after = bare_same (silenced now t) after.bounded.ordered none_after after.bounded.lawful
 
-  pub silent-apart : {v b' : List ℕ} → length v ≡ length (take (m - 0) (drop 0 b)) → Makes (take (m - 0) (drop 0 b)) v Placeless (silenced now) → length b' ≡ length b
-      → b' ≡ take 0 b ++ (v ++ drop (m - 0) (drop 0 b)) → Apart b' f m (on_table (expired now st).table st) xs
+  pub silent-apart : {v b' : List ℕ} → length v ≡ length (take m b) → Makes (take m b) v Placeless (silenced now) → length b' ≡ length b
+      → b' ≡ v ++ drop m b → Apart b' f m (on_table (expired now st).table st) xs
   silent-apart {v} {b'} nv makes nb e = subst (λ (x : Listed). Apart b' f m (on_table x.table st) xs) (sym silent_is) (record {
     sound = after;
     size = o.size;
@@ -159,7 +159,7 @@ module _ {b f : List ℕ} {m : ℕ} {st : State} {xs : List Slot} (o : Apart b f
     first_long = o.first_long;
     writes =
         let p = subst Placeless (sym same) (placeless t o.sound.bounded.ordered packless) in
-        let a = makes (bare_state st) (sound-bare o.sound) (subst (λ (z : List ℕ). Writes z (bare_state st)) (sym (front_lent b m)) o.writes) p in
+        let a = makes (bare_state st) (sound-bare o.sound) o.writes p in
         subst (λ (y : List ℕ). Writes y (bare_state (on_table (silenced now t) st))) (sym (ap (take m) e ∙ front_is b v m (front_within o) nv))
         (subst (λ (x : Table). Writes v (on_table x (bare_state st))) (ap (silenced now) same ∙ sym same_after) a);
     slots = slots_rest (ap (drop m) e ∙ rest_stays b v m (front_within o) nv) o.slots;

@@ -19,10 +19,6 @@ use regions::listed::Records;
 // With fewer parents a pass over the rows costs more than it spares.
 const FEW: usize = 6;
 
-fn region() -> [u8; ROOM] {
-    [0u8; ROOM]
-}
-
 // The rows of so many parents that wait, at the front of a region.
 #[derive(Drop)]
 pub struct Waiting {
@@ -46,7 +42,7 @@ impl Waiting {
         ensures { (result.count ≡ 0) × Empty (words result.bytes) }
     {
         let mut new = Waiting {
-            bytes: region(),
+            bytes: [0; ROOM],
             count: 0,
         };
         gathering::region::clear(&mut new.bytes);

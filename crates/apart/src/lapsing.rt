@@ -26,7 +26,7 @@ fn lapse(
     ensures { Lapses s.old s.new first.old first.new m p (key_num k) n clock }
 {
     if p.stage != ENQUEUED {
-        failing::failed(&mut s[0..m], k, n, clock);
+        failing::failed(&mut s[..m], k, n, clock);
         slots::kill(s, m, first, p.at);
     }
 }
@@ -54,7 +54,7 @@ fn expire_place(
         connection: n,
         clock,
     };
-    noting::announce_all(&mut s[0..m], parents, spent)
+    noting::announce_all(&mut s[..m], parents, spent)
 }
 
 // What is known while owners expire: how many places at most have notes. `spent` is a property of the tracker: nobody can be evicted.
@@ -80,7 +80,7 @@ pub fn expire_one(
     ensures { Expires s.old s.new first.old first.new m c (key_num k) n.number clock q result }
 {
     let Some(p) = slots::find(s, m, first, c, k) else {
-        failing::failed(&mut s[0..m], k, n.number, clock);
+        failing::failed(&mut s[..m], k, n.number, clock);
         return q;
     };
     let r = expire_place(s, m, first, p, k, n, clock, q.spent);

@@ -1,6 +1,6 @@
 // The places that are set apart, by number: the first in an array, the others from the byte m of the store on. Which parents of a place were
 // kept is noted in it, in two words that are zero at rest. The store, m and the first place travel together and are no struct: it would hold two
-// `&mut` slices, one of which is lent in part (`s[0..m]`) between these calls, and each contract would need a clause that both references stay.
+// `&mut` slices, one of which is lent in part (`s[..m]`) between these calls, and each contract would need a clause that both references stay.
 // Each function asks whether i is 0: one that gave the region and the index would lend either slice, and say of a change which of the two stays.
 ghost use Rattle.std.specs.Prelude.{◌≡◌, ◌+◌, ◌*◌, ◌≤◌, ◌<◌, length, take, drop, [], ◌∷◌};
 ghost use Rattle.ident.specs.Number.{wtxid};
@@ -46,8 +46,7 @@ pub fn load(s: &[u8], m: usize, first: &[u8; SLOT], i: usize, slot: &mut [u8; SL
     if i == 0 {
         slot.copy_from_slice(first);
     } else {
-        let y = s.len();
-        copy_out(&s[m..y], i - 1, slot);
+        copy_out(&s[m..], i - 1, slot);
     }
 }
 
@@ -59,8 +58,7 @@ pub fn head_at(s: &[u8], m: usize, first: &[u8; SLOT], i: usize) -> places::Head
     if i == 0 {
         return places::read_head(first, 0);
     }
-    let y = s.len();
-    places::read_head(&s[m..y], i - 1)
+    places::read_head(&s[m..], i - 1)
 }
 
 // The i-th place dies.
@@ -71,8 +69,7 @@ pub fn kill(s: &mut [u8], m: usize, first: &mut [u8; SLOT], i: usize)
     if i == 0 {
         places::set_stage(first, 0, DEAD);
     } else {
-        let y = s.len();
-        places::set_stage(&mut s[m..y], i - 1, DEAD);
+        places::set_stage(&mut s[m..], i - 1, DEAD);
     }
 }
 
@@ -94,8 +91,7 @@ pub fn set_note(s: &mut [u8], m: usize, first: &mut [u8; SLOT], i: usize, x: Not
     if i == 0 {
         write_note(first, 0, x);
     } else {
-        let y = s.len();
-        write_note(&mut s[m..y], i - 1, x);
+        write_note(&mut s[m..], i - 1, x);
     }
 }
 
@@ -119,8 +115,7 @@ pub fn note_at(s: &[u8], m: usize, first: &[u8; SLOT], i: usize) -> Note
     if i == 0 {
         return read_note(first, 0);
     }
-    let y = s.len();
-    read_note(&s[m..y], i - 1)
+    read_note(&s[m..], i - 1)
 }
 
 // The notes of the first n places are cleared.
@@ -144,8 +139,7 @@ fn seek(s: &[u8], m: usize, first: &[u8; SLOT], n: usize, h: regions::Quad) -> u
     if !regions::quad_less(places::read_head(first, 0).hash, h) {
         return 0;
     }
-    let y = s.len();
-    places::seek_place(&s[m..y], n - 1, h) + 1
+    places::seek_place(&s[m..], n - 1, h) + 1
 }
 
 // The place of the Wtxid key with hash h, if it has one that is not dead.

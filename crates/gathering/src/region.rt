@@ -1,5 +1,5 @@
 // A region of rows that wait, in the order of their keys: looked up, and one put in.
-ghost use Rattle.std.specs.Prelude.{◌≡◌, ◌+◌, ◌*◌, ◌≤◌, length};
+ghost use Rattle.std.specs.Prelude.{◌+◌, ◌*◌, ◌≤◌, length};
 ghost use Rattle.ident.specs.Words.{hash_num};
 ghost use Rattle.words.specs.Words.{words};
 ghost use Rattle.regions.specs.Rows.{row_size, key_number};
@@ -17,8 +17,7 @@ const WORDS: usize = SPACE * ROW;
 pub const ROOM: usize = WORDS * 8;
 
 // Makes the region empty.
-pub fn clear(new: &mut [u8])
-    requires { length new.old ≡ 8 * (row_size * space) }
+pub fn clear(new: &mut [u8; ROOM])
     ensures { Empty (words new.new) }
 {
     words::clear(new, 0, WORDS);

@@ -30,7 +30,8 @@ fn no_keys() -> [u8; KEYS] {
     [0u8; KEYS]
 }
 
-// Copies the connections of the candidates of the request at k to the front of `conns`; answers how many they are.
+// Copies the connections of the candidates of the request at k to the front of `conns`; answers how many they are. (By the index: the invariant is of the first i of both, where
+// a zip with `iter_mut` would have one of what it yielded and of what is left to write.)
 #[tactic(auto, using(requests::proofs::Keeping::kept_shown))]
 fn copy_conns(s: &[u8], k: ident::Key, conns: &mut [u64; MAX_ALTERNATES]) -> usize
     requires { Kept s.now }

@@ -1,12 +1,12 @@
 -- Every owner that is due expires, one turn after the other, where the places are set apart.
-use Prim.Native.Nat.{ℕ, zero, suc, ◌+◌, ◌-◌, ◌≤◌, ◌<◌}
+use Prim.Native.Nat.{ℕ, zero, suc, ◌+◌, ◌≤◌, ◌<◌}
 use mathlib.Core.Path.{◌≡◌, refl, sym, ap, subst, ◌∙◌}
 use mathlib.Core.Logic.{inl, inr}
 use mathlib.Core.Bool.{true, false}
 use mathlib.Core.List.{List, [], ◌∷◌, ◌++◌}
 use native.Mathlib.Omega.{arith}
 use native.Mathlib.Numerals.{add-one}
-use lib.ListN.{length, take, drop, get_or, length-map}
+use lib.ListN.{length, take, get_or, length-map}
 use Rattle.ident.specs.declared.Kind.{Kind}
 use Rattle.ident.specs.declared.Kind.TheVariants.{Txid, Wtxid}
 use Rattle.ident.specs.Number.{top, base, Key, place}
@@ -30,10 +30,8 @@ use Rattle.apart.proofs.BareTable.{sound-bare}
 use Rattle.apart.proofs.OneOwner.{noted_none}
 use Rattle.apart.proofs.SpentStill.{victims-bare}
 use Rattle.failing.proofs.Leaving.{told}
-use Rattle.planning.specs.Expiring.{expire_one, due_from, DueNext, NextDue, ExpiresAll}
-use Rattle.apart.proofs.Overdue.{front_lent}
+use Rattle.planning.specs.Expiring.{expire_one, due_from, DueNext, ExpiresAll}
 use Rattle.std.specs.Prelude as rust
-use Rattle.planning.specs.declared.expiring.Overdue.{Overdue}
 use Rattle.planning.proofs.BareDue.{due_from_bare}
 use Rattle.planning.proofs.Overdue.{due_cases, due_first, Expiring, expiring_start, expiring_end, expiring_more}
 
@@ -152,7 +150,3 @@ way-ends {b = b} {f = f} {m} {now = now} {x} {q} l a d = record {
         keys = e.0;
       };
 }
-
--- what is found in the front that is lent is found in the front
-pub lent_next : (b : List ℕ) (m : ℕ) {now x : ℕ} {w : rust.Option Overdue} → NextDue (take (m - 0) (drop 0 b)) now x w → NextDue (take m b) now x w
-lent_next b m {now} {x} {w} n = subst (λ (z : List ℕ). NextDue z now x w) (front_lent b m) n

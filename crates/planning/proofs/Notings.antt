@@ -21,7 +21,7 @@ use Rattle.apart.specs.Noting.{parent_in, hashes_at, picked, picked_in, ParentsI
 use Rattle.apart.specs.Lapsing.{noted_of, noted, nowhere}
 use Rattle.apart.proofs.SlotWords.{plain-long}
 use Rattle.apart.proofs.Notes.{hashes_next, hashes_none, slot_all}
-use Rattle.apart.proofs.Overdue.{front_lent, front_is, rest_stays, slots_rest}
+use Rattle.apart.proofs.Overdue.{front_is, rest_stays, slots_rest}
 use Rattle.apart.proofs.OneOwner.{picked-clear, noted_none}
 use Rattle.selecting.specs.declared.Scan.{Scan}
 use Rattle.selecting.specs.Phasing.{Roomy, Scans}
@@ -59,11 +59,10 @@ module _ {b f : List ℕ} {m i : ℕ} {x : Note} (note : NoteIn b f m i x) {p : 
         (scans_as (scans_start (λ st. []) v k r) (λ st. []) list_most (omega arith) (λ st l u w. refl));
   }
 
-  pub place-scanned : {q : List ℕ} {w : Scan} (z y b' : List ℕ) {c : ℕ} → Loaded b f m i z → ParentsIn z c → m ≤ length b → length y ≡ length (take (m - 0) (drop 0 b)) → b' ≡ take 0 b ++ (y
-      ++ drop (m - 0) (drop 0 b))
-      → Scans (take (m - 0) (drop 0 b)) y p q now (λ st. picked_in (hashes_at (words z) 0 c) x.low x.high) (λ st. []) v w list_most → PlaceScans b b' f m i p q now v w
+  pub place-scanned : {q : List ℕ} {w : Scan} (z y b' : List ℕ) {c : ℕ} → Loaded b f m i z → ParentsIn z c → m ≤ length b → length y ≡ length (take m b) → b' ≡ y ++ drop m b
+      → Scans (take m b) y p q now (λ st. picked_in (hashes_at (words z) 0 c) x.low x.high) (λ st. []) v w list_most → PlaceScans b b' f m i p q now v w
   place-scanned {q} {w} z y b' {c} load n l ny e g =
-      let g₁ : Scans (take m b) (take m b') p q now (λ st. picked_in (hashes_at (words z) 0 c) x.low x.high) (λ st. []) v w list_most = rw (e, front_is b y m l ny) (rw (front_lent b m) at g) in
+      let g₁ : Scans (take m b) (take m b') p q now (λ st. picked_in (hashes_at (words z) 0 c) x.low x.high) (λ st. []) v w list_most = rw (e, front_is b y m l ny) g in
       record {
         ahead = record { rest = ap (drop m) e ∙ rest_stays b y m l ny; kept = g₁.kept; roomy = g₁.roomy; near = g₁.near };
         goes = λ Q xs d h s short.

@@ -1,5 +1,5 @@
 -- A whole plan: the places set apart, expiry, two phases, the places put back.
-use Prim.Native.Nat.{ℕ, zero, suc, ◌-◌, ◌≤◌, ◌<◌}
+use Prim.Native.Nat.{ℕ, zero, suc, ◌≤◌, ◌<◌}
 use mathlib.Core.Path.{◌≡◌, refl, sym, ap, subst, ◌∙◌}
 use mathlib.Core.List.{List, ◌++◌}
 use mathlib.Core.Option.{Option, none, some}
@@ -30,7 +30,7 @@ use Rattle.apart.proofs.SlotWords.{plain-long}
 use Rattle.apart.proofs.Forgetting.{forgotten_apart, forgotten_behind}
 use Rattle.apart.proofs.BareTable.{sound-bare, keys-bare}
 use Rattle.apart.proofs.BareChoice.{phase-bare}
-use Rattle.apart.proofs.Overdue.{front_lent, front_is, rest_stays, slots_rest}
+use Rattle.apart.proofs.Overdue.{front_is, rest_stays, slots_rest}
 use Rattle.selecting.specs.declared.Scan.{Scan}
 use Rattle.planning.specs.declared.replying.Reply.{Reply}
 use Rattle.selecting.specs.Selecting.{Scanning}
@@ -92,10 +92,10 @@ module _ {b₀ b₁ b₂ f₁ f₂ p₂ : List ℕ} {m c now : ℕ} (asked : Opt
     abbrev first : machine.Scan
     first = machine.phase now (bare st₁.table) (machine.expired now st).keys machine.start
 
-    scanning : Scanning now (bare_state st₁) first (take (m - 0) (drop 0 b₂)) p₂ w
-    scanning = subst (λ (z : List ℕ). Scanning now (bare_state st₁) first z p₂ w) (sym (front_lent b₂ m)) start.stands
+    scanning : Scanning now (bare_state st₁) first (take m b₂) p₂ w
+    scanning = start.stands
 
-    pub started : Begun now (take (m - 0) (drop 0 b₂)) p₂ w
+    pub started : Begun now (take m b₂) p₂ w
     started = record {
       state = bare_state st₁;
       some-keys = (machine.expired now st).keys;
@@ -103,7 +103,7 @@ module _ {b₀ b₁ b₂ f₁ f₂ p₂ : List ℕ} {m c now : ℕ} (asked : Opt
       stands = scanning;
     }
 
-    pub limit_is : limit_in (take (m - 0) (drop 0 b₂)) ≡ limit_in b₀
+    pub limit_is : limit_in (take m b₂) ≡ limit_in b₀
     limit_is = omega (arith, (sizes scanning.marks.writes).limit, (sizes o).limit)
 
     scan_is : asks now asked (bare_state st₁) first ≡ machine.scanned now asked st
@@ -130,9 +130,9 @@ module _ {b₀ b₁ b₂ f₁ f₂ p₂ : List ℕ} {m c now : ℕ} (asked : Opt
           ready = plan-cursor now asked st late s;
         }
 
-    module _ {x b₃ u u' : List ℕ} {r : Reply} (l : m ≤ length b₂) (nx : length x ≡ length (take (m - 0) (drop 0 b₂))) (e₃ : b₃ ≡ take 0 b₂ ++ (x ++ drop (m - 0) (drop 0 b₂))) (n₃ : length
+    module _ {x b₃ u u' : List ℕ} {r : Reply} (l : m ≤ length b₂) (nx : length x ≡ length (take m b₂)) (e₃ : b₃ ≡ x ++ drop m b₂) (n₃ : length
         b₃ ≡ length b₁)
-        (nf : length f₂ ≡ length f₁) (ask : AsksOf (take (m - 0) (drop 0 b₂)) x p₂ u u' now asked w r) where
+        (nf : length f₂ ≡ length f₁) (ask : AsksOf (take m b₂) x p₂ u u' now asked w r) where
       answer : Asks now asked (bare_state st₁) first x u u' r
       answer = ask (bare_state st₁) first scanning
 

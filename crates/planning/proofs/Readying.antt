@@ -1,5 +1,5 @@
 -- The candidates beside each owner that is due made ready, one turn after the other; then all of these owners dropped.
-use Prim.Native.Nat.{ℕ, suc, ◌+◌, ◌-◌, ◌≤◌, ◌<◌}
+use Prim.Native.Nat.{ℕ, suc, ◌+◌, ◌≤◌, ◌<◌}
 use mathlib.Core.Path.{◌≡◌, refl, sym, ap, subst, ◌∙◌}
 use mathlib.Core.Logic.{inl, inr}
 use mathlib.Core.List.{List, [], ◌∷◌, ◌++◌, map}
@@ -132,8 +132,8 @@ made_silent {now = now} x m st s g p =
     m (on_table (ready_each now (due now t) t) st) (x.sound st s) (x.table st s g tt) (placeless_each now (due now t) t (due-keyed now 0 t s.bounded.ordered) s.bounded.ordered p)
 
 -- no places: nothing is noted
-pub all_silent : {b b' f v : List ℕ} {m c now : ℕ} → now < word → c ≡ 0 → length v ≡ length (take (m - 0) (drop 0 b)) → Makes (take (m - 0) (drop 0 b)) v Placeless (silenced now)
-    → length b' ≡ length b → b' ≡ take 0 b ++ (v ++ drop (m - 0) (drop 0 b)) → ExpiresAll b b' f f m c now 0
+pub all_silent : {b b' f v : List ℕ} {m c now : ℕ} → now < word → c ≡ 0 → length v ≡ length (take m b) → Makes (take m b) v Placeless (silenced now)
+    → length b' ≡ length b → b' ≡ v ++ drop m b → ExpiresAll b b' f f m c now 0
 all_silent w z nv makes nb e = record {
   most = omega arith;
   goes = λ st ps o n.

@@ -78,7 +78,7 @@ fn expire_each(s: &mut [u8], m: usize, first: &mut [u8; SLOT], c: usize, clock: 
         spent: false,
     };
     // no iterator: each turn searches a store that the one before it changed
-    while let Some(due) = next_due(&s[0..m], clock, last) {
+    while let Some(due) = next_due(&s[..m], clock, last) {
         let owner = Connection {
             number: due.connection,
         };
@@ -96,7 +96,7 @@ pub fn expire(s: &mut [u8], m: usize, first: &mut [u8; SLOT], c: usize, clock: u
     ensures { ExpiresAll s.old s.new first.old first.new m c clock result }
 {
     if c == 0 {
-        expire_silent(&mut s[0..m], clock);
+        expire_silent(&mut s[..m], clock);
         return 0;
     }
     expire_each(s, m, first, c, clock)

@@ -85,7 +85,7 @@ fn consider_noted(
     let mut slot = apart::slot_room();
     apart::slots::load(s, m, first, i, &mut slot);
     let c = apart::noting::parents_in(&slot);
-    consider_place(&mut s[0..m], clock, &slot, c, note, picks, v)
+    consider_place(&mut s[..m], clock, &slot, c, note, picks, v)
 }
 
 // Considers the parents that are noted of the first e places.

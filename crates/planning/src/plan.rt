@@ -49,7 +49,7 @@ fn select(s: &mut [u8], clock: Clock, asked: Option<&[u8]>, out: &mut [u8]) -> r
     apart::set_apart(s, m, &mut first);
     let mut picks = replying::numbers();
     let v = begin(s, m, &mut first, c, clock, &mut picks);
-    let r = replying::ask(&mut s[0..m], clock, asked, &mut picks, v, out);
+    let r = replying::ask(&mut s[..m], clock, asked, &mut picks, v, out);
     apart::put_back(s, m, &first, c);
     r
 }

@@ -59,7 +59,7 @@ pub fn numbers() -> [usize; MAX_SELECTED]
     [0usize; MAX_SELECTED]
 }
 
-// Room for a key of each.
+// Room for a key of each. (One over the type would ask for the type's zero, and be longer than both.)
 fn sort_keys() -> [u64; MAX_SELECTED]
     ensures { length result ≡ max_request_checks + 1 }
 {
@@ -77,7 +77,8 @@ fn finish(s: &mut [u8], picks: &[usize], out: &mut [u8])
     close(s, picks, &mut keys, &mut order, &mut sorted, out);
 }
 
-// Considers all keys after the ready cursor and round to it, after the scan v; the ready cursor becomes the last key considered.
+// Considers all keys after the ready cursor and round to it, after the scan v; the ready cursor becomes the last key considered. (`ask_given` has another phase, and leaves
+// the cursor: one for both would take the phase as a closure that writes the lent store, and test the cursor's part.)
 fn ask_round(
     s: &mut [u8],
     clock: Clock,

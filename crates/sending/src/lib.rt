@@ -9,7 +9,8 @@ pub mod witness;
 // ---- one connection's requests
 
 // The connection's part of the arranged list. Of a list that is not arranged it is some part. (Of entry structs: C and the event program hand over bytes, of which
-// `public_plans::arrangements::part` tells the first and the count.)
+// `public_plans::arrangements::part` tells the first and the count. Here it is for callers in Rattle:
+// docs/DECISIONS.md and docs/CALLS.md name it.)
 pub fn part(list: &[claiming::Entry], connection: u64) -> &[claiming::Entry]
     ensures { Parted connection list.now result.now }
 {

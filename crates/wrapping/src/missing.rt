@@ -77,12 +77,11 @@ pub fn not_found_each(
     ensures { KeysListed s.old s.new out.old out.new result (λ m t. machine.not_found_each m n.number clock (items_in items.now) t) }
 {
     let count = lent_lists::items(items);
-    let y = out.len();
     let mut kept = 0;
     for i in 0..count {
         let item = lent_lists::item_at(items, i);
         let a = kept * KEY;
-        let c = not_found_one(s, n, item, clock, &mut out[a..y]);
+        let c = not_found_one(s, n, item, clock, &mut out[a..]);
         kept += c;
     }
     kept
@@ -102,7 +101,6 @@ pub fn transaction_not_found(
 {
     let kept = not_found_each(s, n, items, clock, out);
     let a = kept * KEY;
-    let y = out.len();
-    let c = claims::waiting::packages_not_found(s, n, items, clock, &mut out[a..y]);
+    let c = claims::waiting::packages_not_found(s, n, items, clock, &mut out[a..]);
     kept + c
 }

@@ -23,7 +23,6 @@ use machine::clock::Clock;
 use machine::limits::{MAX_PEER_IN_FLIGHT, SOURCE_DELAY};
 use regions::Row;
 use regions::listed::Records;
-use std::marker::PhantomData;
 
 // What holds of every item of a batch. source: a wtxid source exists; late: the connection owned as many requests as it may before. (Each of
 // the bools is a ground for a delay, and none says whether another field holds.)
@@ -139,10 +138,6 @@ fn collect(s: &[u8], new: &mut [u8], b: Batch, first: usize) -> Part
     }
 }
 
-fn region() -> [u8; ROOM] {
-    [0u8; ROOM]
-}
-
 // With fewer items a pass over the rows costs more than it spares.
 const FEW: usize = 4;
 
@@ -157,15 +152,10 @@ fn announce_some(s: &mut [u8], b: Batch, first: usize) -> usize
         announce_one(s, b, first);
         return first + 1;
     }
-    let mut new = region();
+    let mut new = [0u8; ROOM];
     gathering::region::clear(&mut new);
     let p = collect(s, &mut new, b, first);
-    let rows = Records {
-        bytes: &new,
-        count: p.waiting,
-        kind: PhantomData,
-    };
-    gathering::coming::come_in(s, b.terms.connection.number, rows);
+    gathering::coming::come_in(s, b.terms.connection.number, Records::new(&new, p.waiting));
     let next = p.next;
     if next < count {
         announce_one(s, b, next);
@@ -175,14 +165,6 @@ fn announce_some(s: &mut [u8], b: Batch, first: usize) -> usize
 }
 
 // ---- where L is held
-
-// L announcements are held.
-fn full(s: &[u8]) -> bool
-    requires { Kept s.now }
-    ensures { result ≡ true → Whole s.now }
-{
-    store::head::rows(s) >= store::head::limit(s)
-}
 
 // Whether it is worth while to list victims for the items from the first on: they are preferred, L is held, and the first of them does not
 // have to take the place of another at its hash.
@@ -194,17 +176,15 @@ fn displaces(s: &[u8], b: Batch, first: usize) -> bool
         return false;
     }
     let item = lent_lists::item_at(b.items, first);
-    !announcing::keyed::crowded(s, item.hash) && full(s)
+    !announcing::keyed::crowded(s, item.hash) && gathering::beside::full(s, 0)
 }
 
-// As many victims are listed at most.
-const MOST: usize = 128;
-
+// How many victims are listed.
 fn at_most(n: usize) -> usize
     requires { 1 ≤ n }
     ensures { (1 ≤ result) × (result ≤ most_listed) }
 {
-    n.min(MOST)
+    n.min(announcing::foremost::MOST)
 }
 
 // Announces items from the first on, with the store left as it is: each that comes in waits in `new`, which is empty, and the next of the
@@ -242,16 +222,11 @@ fn settle(s: &mut [u8], top: &Victims, b: Batch, first: usize) -> Part
         × (first ≤ length (offers_in b.items.now b.priorities.now)) }
     ensures { Settled s.old s.new top.now.count b.entry.terms (offers_in b.entry.items.now b.entry.priorities.now) first result.next result.waiting }
 {
-    let mut new = region();
+    let mut new = [0u8; ROOM];
     gathering::region::clear(&mut new);
     let p = swap(s, &mut new, top, b, first);
     gathering::going::go(s, top, p.waiting);
-    let rows = Records {
-        bytes: &new,
-        count: p.waiting,
-        kind: PhantomData,
-    };
-    gathering::coming::come_in(s, b.terms.connection.number, rows);
+    gathering::coming::come_in(s, b.terms.connection.number, Records::new(&new, p.waiting));
     p
 }
 

@@ -4,14 +4,14 @@ use mathlib.Core.Path.{refl}
 use native.Mathlib.Omega.{arith}
 use Rattle.ident.specs.Words.{key_num}
 use Rattle.machine.specs.Limits.{word}
-use Rattle.apart.proofs.OneOwner.{all_room, lent_kept, found_held, found_inside, expired-without, expired_with}
+use Rattle.apart.proofs.OneOwner.{all_room, front_kept, found_held, found_inside, expired-without, expired_with}
 use Rattle.apart.proofs.Forgetting.{room_within}
 use borrow.Author.Rules.{rules}
 use Rattle.announcing.proofs.Lent.{key_low}
 use Rattle.apart.proofs.lapsing.expire_one.Goals as goal
 
 pub failed-requires : goal.failed-requires
-failed-requires c = lent_kept c.requires.0.apart
+failed-requires c = front_kept c.requires.0.apart
 
 pub returns-in_default : goal.returns-in_default
 returns-in_default c = record {

@@ -7,4 +7,4 @@ use Rattle.gathering.proofs.region.clear.Goals as goal
 
 pub returns : goal.returns
 returns c = no_rows 4608 (words c.args.new.now) c.clear.ensures
-    (omega (arith, length-words c.args.new.now, c.requires))
+    (omega (arith, length-words c.args.new.now))

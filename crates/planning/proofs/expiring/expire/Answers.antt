@@ -3,13 +3,13 @@ use Prim.Native.Nat.{◌<◌}
 use mathlib.Core.Path.{refl}
 use native.Mathlib.Omega.{arith}
 use Rattle.machine.specs.Limits.{word}
-use Rattle.apart.proofs.OneOwner.{lent_kept}
+use Rattle.apart.proofs.OneOwner.{front_kept}
 use Rattle.planning.proofs.Readying.{all_silent}
 use borrow.Author.Rules.{rules}
 use Rattle.planning.proofs.expiring.expire.Goals as goal
 
 pub expire_silent-requires : goal.expire_silent-requires
-expire_silent-requires c = lent_kept c.requires.apart
+expire_silent-requires c = front_kept c.requires.apart
 
 pub returns-then-c-eq0 : goal.returns-then-c-eq0
 returns-then-c-eq0 c = let late : c.args.clock < word = omega arith in all_silent late c.if-c-eq0.true c.expire_silent.auto.s c.expire_silent.ensures (search rules) refl

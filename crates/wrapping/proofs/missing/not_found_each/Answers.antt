@@ -1,6 +1,6 @@
 -- `wrapping::missing::not_found_each` meets its contract.
 use Prim.Native.Nat.{◌*◌, ◌<◌}
-use mathlib.Core.Path.{◌≡◌, sym}
+use mathlib.Core.Path.{◌≡◌, refl}
 use native.Mathlib.Omega.{arith}
 use lib.ListN.{length}
 use Rattle.machine.specs.Call.{key_bytes}
@@ -40,7 +40,7 @@ not_found_one-c-requires c =
     let v = c.loop-i.invariant in
     let inside : c.loop-i.i < length (items_in a.items.now) = omega (arith, c.loop-i-test.true, c.items-count.ensures) in
     let from : c.loop-i.kept * key_bytes ≡ key_bytes * c.loop-i.kept = omega arith in
-    (turned_kept v q c.requires.0 c.requires.1, turned_roomy v q c.requires.0 c.requires.1 inside from (sym v.buffer-long))
+    (turned_kept v q c.requires.0 c.requires.1, turned_roomy v q c.requires.0 c.requires.1 inside from refl)
 
 pub overflow_add-kept : goal.overflow_add-kept
 overflow_add-kept c =
@@ -49,7 +49,7 @@ overflow_add-kept c =
     let v = c.loop-i.invariant in
     let inside : c.loop-i.i < length (items_in a.items.now) = omega (arith, c.loop-i-test.true, c.items-count.ensures) in
     let from : c.loop-i.kept * key_bytes ≡ key_bytes * c.loop-i.kept = omega arith in
-    let next = turned_more v q c.requires.0 c.requires.1 inside from (sym v.buffer-long) _ c.item_at-item.ensures
+    let next = turned_more v q c.requires.0 c.requires.1 inside from refl _ c.item_at-item.ensures
     c.not_found_one-c.auto.s c.not_found_one-c.auto.out
     c.not_found_one-c.ensures in
     omega (arith, turned_fits next q c.requires.0 c.requires.1)
@@ -61,6 +61,6 @@ loop-i-preserved c =
     let v = c.loop-i.invariant in
     let inside : c.loop-i.i < length (items_in a.items.now) = omega (arith, c.loop-i-test.true, c.items-count.ensures) in
     let from : c.loop-i.kept * key_bytes ≡ key_bytes * c.loop-i.kept = omega arith in
-    turned_more v q c.requires.0 c.requires.1 inside from (sym v.buffer-long) _ c.item_at-item.ensures
+    turned_more v q c.requires.0 c.requires.1 inside from refl _ c.item_at-item.ensures
     c.not_found_one-c.auto.s c.not_found_one-c.auto.out
     c.not_found_one-c.ensures

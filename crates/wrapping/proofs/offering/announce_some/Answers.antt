@@ -14,7 +14,7 @@ announce_one-requires-then-next-count c =
     in
     let peer = peer_of c.args.b.terms.connection (omega (arith, c.well_formed.1.0)) in
     let typed = batch_typed c.args.b in
-    let came = collects_in c.collect-p.ensures c.come_in.ensures in (
+    let came = collects_in c.collect-p.ensures (rw (c.new.ensures.0, c.new.ensures.1) at c.come_in.ensures) in (
       part_kept c.args.b.terms os
           c.args.first
           c.collect-p.result.next came peer
@@ -28,8 +28,7 @@ returns-then-next-count c =
     let os = offers_in c.args.b.items.now c.args.b.priorities.now in
     let peer = peer_of c.args.b.terms.connection (omega (arith, c.well_formed.1.0)) in
     let typed = batch_typed c.args.b in
-    let came = collects_in c.collect-p.ensures
-    c.come_in.ensures in
+    let came = collects_in c.collect-p.ensures (rw (c.new.ensures.0, c.new.ensures.1) at c.come_in.ensures) in
     record {
       more = omega (arith, c.collect-p.ensures.from);
       inside = omega (
