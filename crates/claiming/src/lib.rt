@@ -36,6 +36,7 @@ fn item_kind(r: regions::Row) -> ident::ItemKind
     }
 }
 
+// The entry of a row's candidate. (A `From` would be no shorter: it has two callers, and the clause says it by name.)
 pub fn entry_of(r: regions::Row) -> Entry
     ensures { entry_of result ≡ entry_at r }
 {

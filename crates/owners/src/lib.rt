@@ -16,6 +16,7 @@ ghost use Rattle.lent_lists.specs.Lists.{hashes_in};
 ghost use Rattle.owners.specs.Walk.{owner_words, Says, row_holding, Along, Halves, OwnersListed};
 
 use std::ops::Bound;
+use store::rows::Window;
 
 pub mod list;
 
@@ -67,23 +68,23 @@ fn with_row(v: Option<Owner>, r: regions::Row, h: regions::Quad) -> Option<Owner
 
 // ---- the rows up to a hash
 
-// Those of from .. to, which are of one kind.
-fn along(s: &[u8], from: usize, to: usize, h: regions::Quad) -> Stretch
-    requires { Shown s.now × (from ≤ to) × (to ≤ rows_in s.now) }
-    ensures { Along s.now from to (quad_number h) result }
+// Those of a window, which are of one kind.
+fn along(s: &[u8], rows: Window, h: regions::Quad) -> Stretch
+    requires { Shown s.now × (rows.to ≤ rows_in s.now) }
+    ensures { Along s.now rows.from rows.to (quad_number h) result }
 {
     let mut keys: u64 = 0;
     let mut owner = None;
-    for i in from..to {
+    for i in rows.from..rows.to {
         let r = store::rows::row_at(s, i);
         if regions::quad_less(h, r.hash) {
             return Stretch { at: i, keys, owner };
         }
         owner = with_row(owner, r, h);
-        keys += u64::from(sweeping::batch::ends_key(s, r, i + 1, to));
+        keys += u64::from(sweeping::batch::ends_key(s, r, i + 1, rows.to));
     }
     Stretch {
-        at: to,
+        at: rows.to,
         keys,
         owner,
     }
@@ -132,8 +133,8 @@ pub fn owners_of(s: &[u8], hashes: &[u8], out: &mut [u8]) -> u64
     let mut passed: u64 = 0;
     for p in 0..count {
         let h = regions::Quad::from(lent_lists::hash_in(hashes, p));
-        let a = along(s, i, m, h);
-        let b = along(s, j, n, h);
+        let a = along(s, Window { from: i, to: m }, h);
+        let b = along(s, Window { from: j, to: n }, h);
         put_owner(out, p, a.owner.or(b.owner));
         i = a.at;
         j = b.at;

@@ -13,6 +13,7 @@ ghost use Rattle.cursors.specs.InWords.{Stands};
 ghost use Rattle.sweeping.specs.Batches.{last_row, Put, Walks, behind, BeginsAt, AfterCursor, AfterKnown};
 
 use std::ops::Bound;
+use store::rows::Window;
 
 // How many keys are handed out, and the last of them.
 #[derive(Clone, Copy)]
@@ -56,19 +57,19 @@ fn hand(out: &mut [u8], v: Batch, r: regions::Row) -> Batch
     }
 }
 
-// Hands out the keys of the rows from .. to, behind those of v, as long as there are fewer than `most`. (`most` is a limit of the machine: `out` may be longer. Plans, owners
+// Hands out the keys of a window's rows, behind those of v, as long as there are fewer than `most`. (`most` is a limit of the machine: `out` may be longer. Plans, owners
 // and the next look walk over keys in the same way, and stop, pass and add up otherwise: one walk over a closure would ask in clauses how what it keeps goes on, longer than the loop.)
-pub fn keys_in(s: &[u8], from: usize, to: usize, most: usize, out: &mut [u8], v: Batch) -> Batch
-    requires { Shown s.now × (from ≤ to) × (to ≤ rows_in s.now) × (v.count ≤ most) × (v.count + to ≤ limit_in s.now + from) × (key_bytes * min most (limit_in s.now) ≤ length out.old) }
-    ensures { Walks s.now from to most out.old out.new v result }
+pub fn keys_in(s: &[u8], rows: Window, most: usize, out: &mut [u8], v: Batch) -> Batch
+    requires { Shown s.now × (rows.to ≤ rows_in s.now) × (v.count ≤ most) × (v.count + rows.to ≤ limit_in s.now + rows.from) × (key_bytes * min most (limit_in s.now) ≤ length out.old) }
+    ensures { Walks s.now rows.from rows.to most out.old out.new v result }
 {
     let mut w = v;
-    for i in from..to {
+    for i in rows.from..rows.to {
         if w.count == most {
             return w;
         }
         let r = store::rows::row_at(s, i);
-        if ends_key(s, r, i + 1, to) {
+        if ends_key(s, r, i + 1, rows.to) {
             w = hand(out, w, r);
         }
     }

@@ -13,6 +13,7 @@ ghost use Rattle.sweeping.specs.Batches.{next_batch, Batched};
 
 use machine::clock::Clock;
 use machine::limits::MAX_KNOWN_CHECKS;
+use store::rows::Window;
 
 pub mod batch;
 
@@ -24,8 +25,8 @@ pub fn known_batch(s: &[u8], out: &mut [u8]) -> batch::Batch
     let n = store::head::rows(s);
     let from = batch::after_known(s);
     let none = batch::nothing();
-    let v = batch::keys_in(s, from, n, MAX_KNOWN_CHECKS, out, none);
-    batch::keys_in(s, 0, from, MAX_KNOWN_CHECKS, out, v)
+    let v = batch::keys_in(s, Window { from, to: n }, MAX_KNOWN_CHECKS, out, none);
+    batch::keys_in(s, Window { from: 0, to: from }, MAX_KNOWN_CHECKS, out, v)
 }
 
 // The same, and the known cursor becomes the last of them. Answers how many they are.

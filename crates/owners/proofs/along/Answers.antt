@@ -12,7 +12,7 @@ use Rattle.owners.proofs.along.Goals as goal
 
 pub returns-then-quad_less : goal.returns-then-quad_less
 returns-then-quad_less c = going_past c.loop-i.invariant c.loop-i-test.true
-    c.requires.2 c.row_at-r.ensures
+    c.requires.1 c.row_at-r.ensures
     (omega (
       arith,
       hash_is c.row_at-r.result,
@@ -22,7 +22,7 @@ returns-then-quad_less c = going_past c.loop-i.invariant c.loop-i-test.true
 
 pub loop-i-preserved : goal.loop-i-preserved
 loop-i-preserved c = going_more c.loop-i.invariant c.loop-i-test.true
-    c.requires.2 c.row_at-r.ensures
+    c.requires.1 c.row_at-r.ensures
     (omega (
       arith,
       hash_is c.row_at-r.result,

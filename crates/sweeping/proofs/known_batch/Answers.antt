@@ -9,7 +9,7 @@ keys_in-v-requires c =
     let n = c.rows-n.ensures.word in
     let f = c.after_known-from.ensures.most in
     let z = c.nothing-none.ensures.0 in
-    (k, omega (arith, n, f), omega (arith, n), omega (arith, z), omega (arith, n, f, z, k.sizes.rows, k.sizes.limit, k.sized.rows_few), c.requires.1)
+    (k, omega (arith, n), omega (arith, z), omega (arith, n, f, z, k.sizes.rows, k.sizes.limit, k.sized.rows_few), c.requires.1)
 
 pub keys_in-requires : goal.keys_in-requires
 keys_in-requires c =
@@ -19,7 +19,6 @@ keys_in-requires c =
     let z = c.nothing-none.ensures.0 in
     let w = c.keys_in-v.ensures in (
       k,
-      omega arith,
       f,
       w.few,
       omega (arith, n, f, z, w.near, k.sizes.rows, k.sizes.limit, k.sized.rows_few),

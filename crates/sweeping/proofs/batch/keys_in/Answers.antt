@@ -6,9 +6,9 @@ use Rattle.sweeping.proofs.batch.keys_in.Goals as goal
 pub loop-i-preserved : goal.loop-i-preserved
 loop-i-preserved c =
     elim c.if-ends_key.branch [
-      | then-ends_key k ↦ rw (k.out-is, k.w-is) (walking_more c.loop-i.invariant (omega arith) c.requires.2 c.row_at-r.ensures c.ends_key.ensures k.if-ends_key.true c.if-w-most.false
-          (walking_room c.loop-i.invariant (omega arith) c.if-w-most.false c.requires.4 c.requires.5) k.hand-w.ensures)
-      | else-ends_key k ↦ rw (k.out-is, k.w-is) (walking_skip c.loop-i.invariant (omega arith) c.requires.2 c.row_at-r.ensures c.ends_key.ensures k.if-ends_key.false)
+      | then-ends_key k ↦ rw (k.out-is, k.w-is) (walking_more c.loop-i.invariant (omega arith) c.requires.1 c.row_at-r.ensures c.ends_key.ensures k.if-ends_key.true c.if-w-most.false
+          (walking_room c.loop-i.invariant (omega arith) c.if-w-most.false c.requires.3 c.requires.4) k.hand-w.ensures)
+      | else-ends_key k ↦ rw (k.out-is, k.w-is) (walking_skip c.loop-i.invariant (omega arith) c.requires.1 c.row_at-r.ensures c.ends_key.ensures k.if-ends_key.false)
     ]
 
 pub returns : goal.returns
