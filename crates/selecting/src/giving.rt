@@ -1,5 +1,6 @@
-// The end of a plan's scan: the entries of the selections are written, and every selection is given back. The loops here and in `ordering` go by the number of a selection, since
-// their invariants speak of the first j of them. Tried with `iter().rev()`, `enumerate` and `zip`: such a loop knows what was yielded, and no number.
+// The end of a plan's scan: the entries of the selections are written, and every selection is given back. The loops here and in `ordering` go by the number of a
+// selection, since their invariants speak of the first j of them. A loop over the numbers themselves has its invariant of those that were yielded, from which the same would
+// have to be made in each proof.
 ghost use Rattle.std.specs.Prelude.{◌*◌, ◌≤◌, length};
 ghost use Rattle.machine.specs.Call.{entry_bytes};
 ghost use Rattle.store.specs.Shown.{Kept};

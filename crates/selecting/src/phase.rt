@@ -10,6 +10,7 @@ ghost use Rattle.sweeping.specs.Batches.{keys_over};
 ghost use Rattle.selecting.specs.Phasing.{key_count, given_keys, Roomy, Scans, Phased};
 
 use machine::clock::Clock;
+use store::rows::Window;
 
 // The same scan, where a phase begins.
 pub fn opened(v: crate::Scan) -> crate::Scan
@@ -65,29 +66,28 @@ pub fn phase_given(
 
 // ---- all keys
 
-// Considers the keys of the rows from .. to, each at its last row.
+// Considers the keys of a window's rows, each at its last row.
 fn keys_over(
     s: &mut [u8],
     clock: Clock,
-    from: usize,
-    to: usize,
+    rows: Window,
     picks: &mut [usize],
     v: crate::Scan,
 ) -> crate::Scan
-    requires { Kept s.old × (max_request_checks < length picks.old) × Roomy v × ((from ≤ to) × (to ≤ rows_in s.old)) × (v.considered + to ≤ half) }
-    ensures { Scans s.old s.new picks.old picks.new clock.time (λ st. keys_over from to (rows_of st.table)) (λ st. []) v result (to - from) }
+    requires { Kept s.old × (max_request_checks < length picks.old) × Roomy v × (rows.to ≤ rows_in s.old) × (v.considered + rows.to ≤ half) }
+    ensures { Scans s.old s.new picks.old picks.new clock.time (λ st. keys_over rows.from rows.to (rows_of st.table)) (λ st. []) v result (rows.to - rows.from) }
 {
     let mut w = crate::Walk {
         scan: v,
         txid: 0,
         wtxid: 0,
     };
-    for i in from..to {
+    for i in rows.from..rows.to {
         if w.scan.full {
             return w.scan;
         }
         let r = store::rows::row_at(s, i);
-        if sweeping::batch::ends_key(s, r, i + 1, to) {
+        if sweeping::batch::ends_key(s, r, i + 1, rows.to) {
             w = crate::consider_next(s, clock, announcing::evict::key_of(r), picks, w);
         }
     }
@@ -102,6 +102,6 @@ pub fn phase_round(s: &mut [u8], clock: Clock, picks: &mut [usize], v: crate::Sc
     let c = cursors::cursor_at(s, store::layout::READY);
     let from = sweeping::batch::after_cursor(s, c);
     let n = store::head::rows(s);
-    let x = keys_over(s, clock, from, n, picks, opened(v));
-    keys_over(s, clock, 0, from, picks, x)
+    let x = keys_over(s, clock, Window { from, to: n }, picks, opened(v));
+    keys_over(s, clock, Window { from: 0, to: from }, picks, x)
 }
