@@ -1,17 +1,19 @@
 -- Owners that were written to an answer buffer, read back.
-use Prim.Native.Nat.{ℕ, ◌<◌}
-use mathlib.Core.Path.{◌≡◌, refl, ap, ◌∙◌}
+use Prim.Native.Nat.{ℕ, zero, suc, ◌+◌, ◌-◌, ◌*◌, ◌≤◌, ◌<◌}
+use mathlib.Core.Path.{◌≡◌, refl, sym, ap, ◌∙◌}
 use mathlib.Core.Logic.{inl, inr}
 use mathlib.Core.Bool.{true}
 use mathlib.Core.List.{List, [], ◌∷◌, ◌++◌, append_assoc}
 use mathlib.Core.Option.{Option, none, some}
 use native.Mathlib.Omega.{arith}
 use lib.Dec.{lit<, eqb}
-use lib.ListN.{length, take, drop}
-use lib.Seq.{take_at, drop_at}
+use lib.ListN.{length, take, drop, get_or}
+use lib.Seq.{take_at, drop_at, drop-drop}
 use borrow.Author.Tests.{eqb-true}
-use Rattle.ident.specs.Number.{Key, txid, wtxid}
-use Rattle.words.specs.Words.{number, digits, bytes_of}
+use Rattle.ident.specs.Number.{Key, txid, wtxid, kind_is}
+use Rattle.ident.specs.declared.Kind.{Kind}
+use Rattle.words.specs.Words.{number, digits, bytes_of, words}
+use Rattle.words.proofs.Words.{word_at}
 use Rattle.words.proofs.Digits.{length_digits, number_digits}
 use Rattle.machine.specs.Limits.{word}
 use Rattle.machine.specs.State.{Candidate, Owner, State}
@@ -95,3 +97,38 @@ module _ (st : State) (s : Sound st) where
   pub holdings_back : (hs u : List ℕ) → holdings_in hs (written (holdings_answer (holdings hs st.table)) u) ≡ holdings hs st.table
   unfolding written
   holdings_back hs u = front_back hs (drop (length (holdings_answer (holdings hs st.table))) u)
+
+-- ---- one owner of an answer
+
+-- its three words in a buffer
+words_are : (u : List ℕ) (i h : ℕ) → owner_bytes * i + owner_bytes ≤ length u → {t c d : ℕ} → t ≡ get_or (words u) (i * 3) 0 → c ≡ get_or (words u) (i * 3 + 1) 0 → d ≡ get_or (words u) (i * 3 + 2) 0
+    → holding_in h (drop (owner_bytes * i) u) ≡ holding_from h t c d
+unfolding holding_in
+words_are u i h l {t} {c} {d} et ec ed =
+    let e₀ : 8 * (i * 3) ≡ owner_bytes * i = omega arith in
+    let e₁ : 8 * (i * 3 + 1) ≡ owner_bytes * i + 8 = omega arith in
+    let e₂ : 8 * (i * 3 + 2) ≡ owner_bytes * i + 8 + 8 = omega arith in
+    let x : number 256 (take 8 (drop (owner_bytes * i) u)) ≡ t = sym (et ∙ word_at u (i * 3) (omega arith) ∙ ap (λ (n : ℕ). number 256 (take 8 (drop n u))) e₀) in
+    let y : number 256 (take 8 (drop 8 (drop (owner_bytes * i) u))) ≡ c =
+    ap (λ (z : List ℕ). number 256 (take 8 z)) (drop-drop 8 (owner_bytes * i) u) ∙ sym (ec ∙ word_at u (i * 3 + 1) (omega arith) ∙ ap (λ (n : ℕ). number 256 (take 8 (drop n u))) e₁) in
+    let w : number 256 (take 8 (drop 8 (drop 8 (drop (owner_bytes * i) u)))) ≡ d =
+    ap (λ (z : List ℕ). number 256 (take 8 (drop 8 z))) (drop-drop 8 (owner_bytes * i) u) ∙ ap (λ (z : List ℕ). number 256 (take 8 z)) (drop-drop 8 (owner_bytes * i + 8) u)
+    ∙ sym (ed ∙ word_at u (i * 3 + 2) (omega arith) ∙ ap (λ (n : ℕ). number 256 (take 8 (drop n u))) e₂) in
+    (λ j. holding_from h (x j) (y j) (w j))
+
+no-tag : (h c d : ℕ) {t : ℕ} → t ≡ 0 → holding_from h t c d ≡ none
+no-tag h c d e = rw e
+
+a-tag : (t h c d : ℕ) → (t ≡ 0 → ⊥) → holding_from h t c d ≡ some (record { key = record { kind = kind_is (t - 1); hash = h }; connection = c; deadline = d })
+a-tag zero h c d n = absurd (n refl)
+a-tag (suc zero) h c d n = refl
+a-tag (suc (suc t)) h c d n = let e : suc (suc t) - 1 ≡ suc t = omega arith in rw e
+
+module _ (u : List ℕ) (i : ℕ) (l : owner_bytes * i + owner_bytes ≤ length u) {t : ℕ} (et : t ≡ get_or (words u) (i * 3) 0) where
+  pub reads_nobody : t ≡ 0 → (h : ℕ) → holding_in h (drop (owner_bytes * i) u) ≡ none
+  reads_nobody z h = words_are u i h l et refl refl ∙ no-tag h _ _ z
+
+  pub reads-owner : (t ≡ 0 → ⊥) → {k : Kind} → k ≡ kind_is (t - 1) → {c d : ℕ} → c ≡ get_or (words u) (i * 3 + 1) 0 → d ≡ get_or (words u) (i * 3 + 2) 0 → (h : ℕ)
+      → holding_in h (drop (owner_bytes * i) u) ≡ some (record { key = record { kind = k; hash = h }; connection = c; deadline = d })
+  reads-owner n {k} ek {c} {d} ec ed h =
+      words_are u i h l et ec ed ∙ a-tag t h c d n ∙ ap (λ (x : Kind). some (record { key = record { kind = x; hash = h }; connection = c; deadline = d })) (sym ek)

@@ -4,7 +4,7 @@
 // next, so that every row up to the greatest hash is passed once, and behind it no more than the next one is looked at. A key is counted at its last row.
 #![tactic(auto, using(requests::proofs::Keeping::kept_shown, sweeping::proofs::Lent::kept_head))]
 
-ghost use Rattle.std.specs.Prelude.{◌≡◌, true, ◌+◌, ◌*◌, ◌≤◌, length};
+ghost use Rattle.std.specs.Prelude.{ℕ, ◌≡◌, true, ◌+◌, ◌*◌, ◌≤◌, length, drop};
 ghost use Rattle.std.proofs.Math.Option.{Option, none};
 ghost use Rattle.words.specs.Words.{bytes_of, splice};
 ghost use Rattle.regions.specs.Rows.{quad_number};
@@ -13,6 +13,7 @@ ghost use Rattle.machine.specs.Call.{owner_bytes};
 ghost use Rattle.store.specs.Gather.{key_at, owner_at};
 ghost use Rattle.store.specs.Shown.{rows_in, Shown, Kept};
 ghost use Rattle.lent_lists.specs.Lists.{hashes_in};
+ghost use Rattle.owners.specs.Back.{holding_in, holding_of};
 ghost use Rattle.owners.specs.Walk.{owner_words, Says, row_holding, Along, Halves, OwnersListed};
 
 use std::ops::Bound;
@@ -21,14 +22,14 @@ use store::rows::Window;
 pub mod list;
 
 // Words of an owner in an answer buffer.
-const OWNER: usize = 3;
+pub const OWNER: usize = 3;
 
 // Who owns a hash, and under which kind.
 #[derive(Clone, Copy)]
-struct Owner {
-    kind: ident::Kind,
-    connection: u64,
-    deadline: u64,
+pub struct Owner {
+    pub kind: ident::Kind,
+    pub connection: u64,
+    pub deadline: u64,
 }
 
 // The rows up to a hash: the first one behind them, how many keys they have, and whom they name as the hash's owner.
@@ -118,6 +119,23 @@ fn put_owner(u: &mut [u8], n: usize, v: Option<Owner>)
         ),
         None => claiming::entries::put_three(u, w, 0, 0, 0),
     }
+}
+
+// The i-th owner of an answer, as `put_owner` stores it.
+pub fn owner_at(answer: &[u8], i: usize) -> Option<Owner>
+    requires { owner_bytes * i + owner_bytes ≤ length answer.now }
+    ensures { (h : ℕ) → holding_in h (drop (owner_bytes * i) answer.now) ≡ holding_of h result }
+{
+    let w = i * OWNER;
+    let tag = words::get(answer, w);
+    if tag == 0 {
+        return None;
+    }
+    Some(Owner {
+        kind: ident::Kind::from(tag - 1),
+        connection: words::get(answer, w + 1),
+        deadline: words::get(answer, w + 2),
+    })
 }
 
 // Writes the owner of each of the hashes, which ascend, to `out`. Answers how many held keys have a hash that is not above the greatest of them.

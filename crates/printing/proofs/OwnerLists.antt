@@ -1,5 +1,5 @@
 -- Owners of an answer buffer as text.
-use Prim.Native.Nat.{ℕ, zero, suc, ◌+◌, ◌-◌, ◌*◌, ◌≤◌, ◌<◌}
+use Prim.Native.Nat.{ℕ, zero, suc, ◌+◌, ◌*◌, ◌≤◌, ◌<◌}
 use mathlib.Core.Path.{◌≡◌, refl, sym, ap, subst, ◌∙◌}
 use mathlib.Core.List.{List, [], ◌∷◌, ◌++◌, append_assoc, append-nil}
 use mathlib.Core.Option.{Option, none, some}
@@ -7,13 +7,9 @@ use native.Mathlib.Numerals.{add-one}
 use native.Mathlib.Omega.{arith}
 use lib.ListN.{length, take, drop, get_or, length-append}
 use lib.Seq.{take_all, drop-drop}
-use Rattle.ident.specs.Number.{kind_is}
-use Rattle.ident.specs.declared.Kind.{Kind}
-use Rattle.words.specs.Words.{number, words}
-use Rattle.words.proofs.Words.{word_at}
 use Rattle.machine.specs.Owners.{Holding}
 use Rattle.machine.specs.Call.{Buffer, owner_bytes}
-use Rattle.owners.specs.Back.{holding_from, holding_in, holdings_in}
+use Rattle.owners.specs.Back.{holding_in, holdings_in}
 use Rattle.machine.specs.Step.{Reply, Owned, answer_bytes}
 use Rattle.machine.proofs.Owners.{length-holdings_answer}
 use Rattle.machine.specs.Text.{decimal, decimal_digits, key_text, joined}
@@ -27,34 +23,6 @@ use Rattle.printing.proofs.Printing.{decimal_end}
 use Rattle.printing.proofs.Behind.{joined-behind, behind_both}
 
 -- ---- one owner
-
--- its three words
-words_are : (u : Buffer) (i h : ℕ) → owner_bytes * i + owner_bytes ≤ length u → {t c d : ℕ} → t ≡ get_or (words u) (i * 3) 0 → c ≡ get_or (words u) (i * 3 + 1) 0 → d ≡ get_or (words u) (i * 3 + 2) 0
-    → holding_in h (drop (owner_bytes * i) u) ≡ holding_from h t c d
-unfolding holding_in
-words_are u i h l {t} {c} {d} et ec ed =
-    let e₀ : 8 * (i * 3) ≡ owner_bytes * i = omega arith in
-    let e₁ : 8 * (i * 3 + 1) ≡ owner_bytes * i + 8 = omega arith in
-    let e₂ : 8 * (i * 3 + 2) ≡ owner_bytes * i + 8 + 8 = omega arith in
-    let x : number 256 (take 8 (drop (owner_bytes * i) u)) ≡ t = sym (et ∙ word_at u (i * 3) (omega arith) ∙ ap (λ (n : ℕ). number 256 (take 8 (drop n u))) e₀) in
-    let y : number 256 (take 8 (drop 8 (drop (owner_bytes * i) u))) ≡ c =
-    ap (λ (z : List ℕ). number 256 (take 8 z)) (drop-drop 8 (owner_bytes * i) u) ∙ sym (ec ∙ word_at u (i * 3 + 1) (omega arith) ∙ ap (λ (n : ℕ). number 256 (take 8 (drop n u))) e₁) in
-    let w : number 256 (take 8 (drop 8 (drop 8 (drop (owner_bytes * i) u)))) ≡ d =
-    ap (λ (z : List ℕ). number 256 (take 8 (drop 8 z))) (drop-drop 8 (owner_bytes * i) u) ∙ ap (λ (z : List ℕ). number 256 (take 8 z)) (drop-drop 8 (owner_bytes * i + 8) u)
-    ∙ sym (ed ∙ word_at u (i * 3 + 2) (omega arith) ∙ ap (λ (n : ℕ). number 256 (take 8 (drop n u))) e₂) in
-    (λ j. holding_from h (x j) (y j) (w j))
-
-no-tag : (h c d : ℕ) {t : ℕ} → t ≡ 0 → holding_from h t c d ≡ none
-no-tag h c d e = rw e
-
--- what a tag that is not 0 tells
-abbrev pub told : ℕ → ℕ → ℕ → ℕ → Holding
-told h t c d = record { key = record { kind = kind_is (t - 1); hash = h }; connection = c; deadline = d }
-
-a-tag : (t h c d : ℕ) → (t ≡ 0 → ⊥) → holding_from h t c d ≡ some (told h t c d)
-a-tag zero h c d n = absurd (n refl)
-a-tag (suc zero) h c d n = refl
-a-tag (suc (suc t)) h c d n = let e : suc (suc t) - 1 ≡ suc t = omega arith in rw e
 
 -- its texts, each behind a comma
 texts-are : (a : Holding) → behind (owner_text (some a)) ≡ (((44 ∷ []) ++ key_text a.key) ++ (44 ∷ decimal a.connection)) ++ (44 ∷ decimal a.deadline)
@@ -73,24 +41,21 @@ owner-length (some a) =
     let d = length-numeral 10 decimal_digits a.deadline in
     rw (texts-are a) (simp length-append (omega arith))
 
-module _ (u : Buffer) (i h : ℕ) (l : owner_bytes * i + owner_bytes ≤ length u) {s : List ℕ} {at : ℕ} where
-  pub wrote-nobody : {s' : List ℕ} {r t : ℕ} → t ≡ get_or (words u) (i * 3) 0 → t ≡ 0 → Wrote s s' at (44 ∷ none_text) r
-      → Wrote s s' at (behind (owner_text (holding_in h (drop (owner_bytes * i) u)))) r
-  wrote-nobody e z w = rw (words_are u i h l e refl refl ∙ no-tag h _ _ z, none_is) w
+module _ {s : List ℕ} {at : ℕ} {o : Option Holding} where
+  pub wrote-nobody : {s' : List ℕ} {r : ℕ} → o ≡ none → Wrote s s' at (44 ∷ none_text) r → Wrote s s' at (behind (owner_text o)) r
+  wrote-nobody e w = rw (e, none_is) w
 
-  pub wrote-owner : {t c d : ℕ} → t ≡ get_or (words u) (i * 3) 0 → c ≡ get_or (words u) (i * 3 + 1) 0 → d ≡ get_or (words u) (i * 3 + 2) 0 → (t ≡ 0 → ⊥) → at + owner_room ≤ length s
-      → {k : Kind} → k ≡ kind_is (t - 1) → {s₁ s₂ s₃ s₄ : List ℕ} {e₁ e₂ e₃ r : ℕ} → Wrote s s₁ at (44 ∷ []) e₁ → Wrote s₁ s₂ e₁ (key_text (record { kind = k; hash = h })) e₂
-      → Wrote s₂ s₃ e₂ (44 ∷ decimal c) e₃ → Wrote s₃ s₄ e₃ (44 ∷ decimal d) r
-      → Wrote s s₄ at (behind (owner_text (holding_in h (drop (owner_bytes * i) u)))) r
-  wrote-owner {t} {c} {d} et ec ed n room {k} ek {s₁} {s₂} {s₃} {s₄} {e₁} {e₂} w₁ v w₃ w₄ =
-      let w₂ : Wrote s₁ s₂ e₁ (key_text (told h t c d).key) e₂ = subst (λ (x : Kind). Wrote s₁ s₂ e₁ (key_text (record { kind = x; hash = h })) e₂) ek v in
-      let l₁ = key-length (told h t c d).key in
-      let lc = length-numeral 10 decimal_digits c in
-      let ld = length-numeral 10 decimal_digits d in
+  pub wrote-owner : {a : Holding} → o ≡ some a → at + owner_room ≤ length s → {s₁ s₂ s₃ s₄ : List ℕ} {e₁ e₂ e₃ r : ℕ} → Wrote s s₁ at (44 ∷ []) e₁ → Wrote s₁ s₂ e₁ (key_text a.key) e₂
+      → Wrote s₂ s₃ e₂ (44 ∷ decimal a.connection) e₃ → Wrote s₃ s₄ e₃ (44 ∷ decimal a.deadline) r
+      → Wrote s s₄ at (behind (owner_text o)) r
+  wrote-owner {a} e room w₁ w₂ w₃ w₄ =
+      let l₁ = key-length a.key in
+      let lc = length-numeral 10 decimal_digits a.connection in
+      let ld = length-numeral 10 decimal_digits a.deadline in
       let n₁ = w₁.next in
       let n₂ = w₂.next in
       let n₃ = w₃.next in
-      rw (words_are u i h l et ec ed ∙ a-tag t h c d n, texts-are (told h t c d)) (wrote_more (wrote_more (wrote_more w₁ w₂ (omega arith)) w₃ (omega arith)) w₄ (omega arith))
+      rw (e, texts-are a) (wrote_more (wrote_more (wrote_more w₁ w₂ (omega arith)) w₃ (omega arith)) w₄ (omega arith))
 
 -- ---- owners one after the other
 

@@ -4,9 +4,9 @@
 ghost use Rattle.std.specs.Prelude.{◌≡◌};
 ghost use Rattle.asking.specs.Calls.{answer_buffer, owners_buffer};
 
-use crate::holdings::OWNER;
 use asking::calls::{MOST_ANNOUNCEMENTS, MOST_PLACES};
 use machine::limits::{MAX_ASKED_HASHES, MAX_PARENTS};
+use owners::OWNER;
 
 // Bytes of the longest answer but that of `nfd`: a key for each announcement, and for each parent of each package.
 pub const ANSWER: usize = (MOST_ANNOUNCEMENTS as usize + MOST_PLACES as usize * MAX_PARENTS)

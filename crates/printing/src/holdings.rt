@@ -12,26 +12,18 @@ ghost use Rattle.printing.specs.Given.{answer_room, most_owners, owner_room, beh
 use crate::entries::put_number;
 use lines::write::put_bytes;
 
-// Words of an owner in an answer buffer.
-pub const OWNER: usize = 3;
-
 // The i-th owner, that of the hash h: `none`, or key, connection and deadline, each behind a comma.
 fn put_owner(out: &mut [u8], at: usize, answer: &[u8], i: usize, h: regions::Quad) -> usize
     requires { (owner_bytes * i + owner_bytes ≤ length answer.now) × (at + owner_room ≤ length out.old) }
     ensures { Wrote out.old out.new at (behind (owner_text (holding_in (quad_number h) (drop (owner_bytes * i) answer.now)))) result }
 {
-    let w = i * OWNER;
-    let tag = words::get(answer, w);
-    if tag == 0 {
+    let Some(owner) = owners::owner_at(answer, i) else {
         return put_bytes(out, at, b",none");
-    }
-    let connection = words::get(answer, w + 1);
-    let deadline = words::get(answer, w + 2);
-    let kind = ident::Kind::from(tag - 1);
+    };
     let from = put_bytes(out, at, b",");
-    let e = lines::write::put_key(out, from, kind, h);
-    let e = put_number(out, e, connection);
-    put_number(out, e, deadline)
+    let e = lines::write::put_key(out, from, owner.kind, h);
+    let e = put_number(out, e, owner.connection);
+    put_number(out, e, owner.deadline)
 }
 
 // How many keys were passed, and behind it the owner of each hash.

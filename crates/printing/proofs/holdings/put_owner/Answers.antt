@@ -5,10 +5,8 @@ use Rattle.printing.proofs.EntryLists.{key_end, number_end}
 use Rattle.printing.proofs.OwnerLists.{wrote-nobody, wrote-owner}
 use Rattle.printing.proofs.holdings.put_owner.Goals as goal
 
-pub returns-then-tag-eq0 : goal.returns-then-tag-eq0
-returns-then-tag-eq0 c =
-    wrote-nobody c.args.answer.now c.args.i (quad_number c.args.h) c.requires.0 c.get-tag.ensures
-    c.if-tag-eq0.true c.put_bytes.ensures
+pub returns-in_default : goal.returns-in_default
+returns-in_default c = wrote-nobody (c.in_default.ensures (quad_number c.args.h)) c.put_bytes.ensures
 
 pub put_number-e-requires : goal.put_number-e-requires
 put_number-e-requires c =
@@ -27,8 +25,6 @@ put_number-requires c =
 
 pub returns : goal.returns
 returns c =
-    wrote-owner c.args.answer.now c.args.i (quad_number c.args.h) c.requires.0
-    c.get-tag.ensures c.get-connection.ensures c.get-deadline.ensures c.if-tag-eq0.false c.requires.1 c.from-kind.ensures
-    c.put_bytes-from.ensures
+    wrote-owner (c.in-Some.ensures (quad_number c.args.h)) c.requires.1 c.put_bytes-from.ensures
     c.put_key-e.ensures
     c.put_number-e.ensures c.put_number.ensures
