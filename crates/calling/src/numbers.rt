@@ -29,7 +29,7 @@ pub fn answer_sum(store: &[u8], out: &mut [u8]) -> usize
     }
 }
 
-// (No From, here and in `key_of`: the types are other crates', so that only a function can say it here.)
+// (No From: Values is reading's, which has no Candidate, so that only a function can say it here.)
 fn candidate(v: Values) -> requests::Candidate
     ensures { candidate_of result ≡ candidate_in (values_of v) }
 {

@@ -1,7 +1,7 @@
 // The answers of the public calls, and the tests of document 01's table that they share ("Refusals and replies").
 //
-// A public call (crates public_requests, public_packages, public_plans) takes the store that the caller lends, of any length and with any bytes, and asks nothing
-// of it. Its contract says that reply, answer buffer and store are what one definition gives, `outcome_if` (specs/Outcome): the number of document 01's table and
+// A public call (crates public_requests, public_packages, public_plans, public_listings) takes the store that the caller lends, of any length and with any bytes,
+// and asks nothing of it. Its contract says that reply, answer buffer and store are what one definition gives, `outcome_if` (specs/Outcome): the number of document 01's table and
 // every byte as it was, or what the request machine does to the state that the bytes write, and the bytes past the need as they were.
 #![tactic(auto)]
 

@@ -1,7 +1,7 @@
 // The tests of document 01's table that calls other than opening share.
 //
 // A test refuses the call, or lets it go on with what it has tested: `?` makes the first that refuses the answer. Each says what all of them come to in turn, for a call that names
-// nothing else: a call makes one of them, and one law (proofs/Carried, `refused`) stands for all calls.
+// nothing else: a call makes one of them, and one law (proofs/Carried, `refused`) stands for all calls. Where a step needs no fact of what was tested, it takes the number.
 ghost use Rattle.std.specs.Prelude.{◌≡◌, [], ◌∷◌, MatchResult, IfOk};
 ghost use Rattle.store.specs.Image.{SoundStore};
 ghost use Rattle.outcome.specs.declared.refusal.Refusal.TheVariants.{NotSound};
@@ -61,7 +61,7 @@ fn of_parents(count: usize) -> Result<(), Refusal>
     Ok(())
 }
 
-// Of an answer buffer of so many bytes, where so many may be needed.
+// Of an answer buffer of so many bytes, where so many may be needed. (Two numbers: a call has them for this one test, and a pair of them would be made and taken apart at once.)
 pub fn of_buffer(length: usize, needs: usize) -> Result<(), Refusal>
     ensures { refusal_in result ≡ in_turn [] [] 0 length needs }
 {
@@ -81,7 +81,7 @@ pub fn of_clock_and_buffer(time: u64, length: usize, needs: usize) -> Result<Clo
     Ok(clock)
 }
 
-// Tests 4 to 7 of a call that has all that they look at.
+// Tests 4 to 7 of a call that has all that they look at. What it has none of is 0, as in the law: no parents, or a buffer of which nothing is needed.
 pub fn in_turn(
     n: u64,
     time: u64,
@@ -98,7 +98,8 @@ pub fn in_turn(
     Ok(named)
 }
 
-// The bytes that a sound store needs for its L and Q: those that a call is lent.
+// The bytes that a sound store needs for its L and Q: those that a call is lent, as `&mut s[..n]`. (A function that lends them would need a clause for the bytes behind them,
+// which the cut at the call says of itself.)
 pub fn need_of(s: &[u8]) -> usize
     requires { SoundStore s.now }
     ensures { Lent s.now result }

@@ -1,5 +1,5 @@
-// The public calls of a plan and of what is sent, and the wrappers' (document 01, "The request machine"). Each takes any store and asks nothing of it
-// (crates/outcome).
+// The public calls of a plan, of what is sent and of the owners of hashes, and the wrappers' (document 01, "The request machine"). Each takes any store and asks nothing
+// of it (crates/outcome).
 #![tactic(auto)]
 
 ghost use Rattle.std.specs.Prelude.{◌≡◌};

@@ -1,5 +1,5 @@
-// The public calls on a request (document 01, "Refusals and replies", "The request machine"): opening, sum, those that bring candidates, those of a failed or
-// withdrawn request, sweep and the poll gate. Each takes any store and asks nothing of it (crates/outcome).
+// The public calls on a request (document 01, "Refusals and replies", "The request machine"): opening, sum, a connection's counts, those that bring candidates,
+// those of a failed or withdrawn request, sweep and the poll gate. Each takes any store and asks nothing of it (crates/outcome).
 #![tactic(auto)]
 
 ghost use Rattle.std.specs.Prelude.{◌≡◌, ◌+◌, ◌-◌, ◌*◌, ◌/◌, ◌≤◌};

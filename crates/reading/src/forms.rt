@@ -26,6 +26,7 @@ pub struct Values {
     pub source: bool,
 }
 
+// (No Default: these are the values before any field is read, which none but `read_form` should start from.)
 fn no_values() -> Values
     ensures { values_of result ≡ blank }
 {
@@ -123,7 +124,8 @@ pub fn read_form(line: &[u8], e: usize, form: &[u8]) -> Option<Parsed<Values>>
     Some(taken)
 }
 
-// The fields of a form, the line's last, behind the comma at index e.
+// The fields of a form, the line's last, behind the comma at index e. (That no field is left is one comparison at the end of each such reader: lists have an end and no Parsed, and
+// a method of Parsed would need a contract for it.)
 pub fn read_whole(line: &[u8], e: usize, form: &[u8]) -> Option<Values>
     ensures { WholeRead line.now e form.now result }
 {

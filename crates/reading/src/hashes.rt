@@ -14,6 +14,8 @@ const HASHES: usize = 32_768;
 
 const STORED: usize = HASHES * HASH_BYTES;
 
+// (This buffer, and those of inventory, are functions of one shape: each contract gives its room by the name that its read_list asks for, where one over the size would have the
+// callers name it.)
 pub fn hash_buffer() -> [u8; STORED]
     ensures { length result ≡ stored_bytes }
 {

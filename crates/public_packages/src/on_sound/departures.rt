@@ -33,6 +33,7 @@ pub fn disconnected(
     let (connection, clock) = refusals::in_turn(connection, clock, 0, answer.len(), needs)?;
     let n = refusals::need_of(s);
     let left = leaving::disconnected(&mut s[..n], connection, clock.time, answer);
+    // (No From: both types are other crates'.)
     Ok(Departure {
         own: left.own as u64,
         parents: left.parents as u64,

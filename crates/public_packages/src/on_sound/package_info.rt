@@ -95,7 +95,7 @@ pub fn package_info_owner(s: &[u8], key: ident::Key, clock: u64) -> Result<u64, 
 {
     refusals::of_clock(clock)?;
     let n = refusals::need_of(s);
-    // A number answers, and no connection is 0.
+    // The call's reply is a number, and that of no connection 0 (PackageInfoOwner of the machine): an Option would be made 0 at each of the three places that hand it on.
     let owner = failing::package_info_owner(&s[..n], key, clock);
     Ok(owner.map_or(0, |owner| owner.number))
 }

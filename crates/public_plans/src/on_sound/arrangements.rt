@@ -14,6 +14,7 @@ pub fn arrange(s: &[u8], witnesses: &[u8], taken: &[u8], answer: &mut [u8]) -> R
     ensures { LeavesWith (On (Arrange (words witnesses.now) (entries_in taken.now) answer.old)) s.now s.now
         answer.new (entries_of result) }
 {
+    // 0 is no connection.
     if sending::witness::listed(witnesses, 0) {
         return Err(Refusal::NoConnection);
     }
