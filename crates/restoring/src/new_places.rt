@@ -67,13 +67,7 @@ fn stage_of(p: Option<Package>) -> Stage
 fn combined_of(p: Option<Package>) -> regions::Quad
     ensures { (ws : List ℕ) → quad_number result ≡ combined_for (package_of ws p) }
 {
-    let zero = regions::Quad {
-        w0: 0,
-        w1: 0,
-        w2: 0,
-        w3: 0,
-    };
-    p.map_or(zero, |p| p.combined)
+    p.map_or(regions::Quad::ZERO, |p| p.combined)
 }
 
 fn wtxid_count(p: Option<Package>) -> usize
