@@ -10,7 +10,6 @@ ghost use Rattle.reading.specs.Given.{values_of};
 ghost use Rattle.printing.specs.Given.{answer_room};
 ghost use Rattle.printing.specs.Answers.{Keeping};
 
-use crate::numbers::key_of;
 use asking::vocabulary::KeysWord;
 use outcome::Refusal;
 use printing::keys::listing;
@@ -20,7 +19,7 @@ fn carry_out(store: &mut [u8], w: KeysWord, v: Values, answer: &mut [u8]) -> Res
     requires { answer.old ≡ answer_buffer }
     ensures { LeavesWith (On (keys_ask w (values_of v))) store.old store.new answer.new (listing_of result) }
 {
-    let key = key_of(v);
+    let key = ident::Key::from(v);
     let subject = ident::Wtxid(ident::Hash::from(v.hash));
     match w {
         KeysWord::Sweep => public_requests::sweeps::sweep(store, answer),

@@ -1,14 +1,13 @@
 // Calls whose reply is a number, and `sum`, carried out, and their replies as text.
 ghost use Rattle.std.specs.Prelude.{◌≤◌, ◌≡◌, length};
 ghost use Rattle.std.proofs.Math.Option.{some};
-ghost use Rattle.ident.specs.Words.{key_num};
 ghost use Rattle.regions.specs.Rows.{quad_number};
 ghost use Rattle.machine.specs.Call.{On, TransactionResponseCompleted, Sum};
 ghost use Rattle.requests.specs.Changes.{candidate_of};
 ghost use Rattle.outcome.specs.Outcome.{Leaves};
 ghost use Rattle.outcome.specs.Reply.{reply_of};
 ghost use Rattle.reading.specs.Line.{Asks};
-ghost use Rattle.reading.specs.Forms.{key_in, candidate_in};
+ghost use Rattle.reading.specs.Forms.{candidate_in};
 ghost use Rattle.reading.specs.Given.{values_of};
 ghost use Rattle.asking.specs.Calls.{number_ask};
 ghost use Rattle.printing.specs.Given.{answer_room};
@@ -45,14 +44,6 @@ fn candidate(v: Values) -> requests::Candidate
     }
 }
 
-pub fn key_of(v: Values) -> ident::Key
-    ensures { key_num result ≡ key_in (values_of v) }
-{
-    let kind = v.kind;
-    let hash = ident::Hash::from(v.hash);
-    ident::Key { kind, hash }
-}
-
 fn response_completed(store: &mut [u8], v: Values) -> Result<u64, Refusal>
     ensures { Leaves (On (TransactionResponseCompleted v.connection (quad_number v.hash) (quad_number v.combined) v.clock)) store.old store.new (reply_of result) }
 {
@@ -64,7 +55,7 @@ fn response_completed(store: &mut [u8], v: Values) -> Result<u64, Refusal>
 fn carry_out(store: &mut [u8], w: NumberWord, v: Values) -> Result<u64, Refusal>
     ensures { Leaves (On (number_ask w (values_of v))) store.old store.new (reply_of result) }
 {
-    let key = key_of(v);
+    let key = ident::Key::from(v);
     match w {
         NumberWord::Announce => public_requests::candidates::announce(store, candidate(v)),
         NumberWord::RequestParent => public_requests::candidates::request_parent(

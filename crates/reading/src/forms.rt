@@ -2,9 +2,10 @@
 // q: priority, p: preferred, s: whether a wtxid source exists. (Letters are bytes, and no enum: so a form is written as a byte string, as b"kcn", where an enum would need a list
 // of its values for each form.)
 ghost use Rattle.std.specs.Prelude.{◌≡◌};
+ghost use Rattle.ident.specs.Words.{key_num};
 ghost use Rattle.regions.specs.Rows.{quad_number};
 ghost use Rattle.lines.specs.Values.{named_key, named_item};
-ghost use Rattle.reading.specs.Forms.{blank, put_key, put_item, put_hash, put_number, put_bool};
+ghost use Rattle.reading.specs.Forms.{key_in, blank, put_key, put_item, put_hash, put_number, put_bool};
 ghost use Rattle.reading.specs.Given.{values_of, FieldTaken, FormRead, WholeRead};
 
 use crate::fields::{Parsed, bool_at, hash_at, item_at, key_at, number_at};
@@ -24,6 +25,17 @@ pub struct Values {
     pub priority: u64,
     pub preferred: bool,
     pub source: bool,
+}
+
+// The key that the fields name.
+impl From<Values> for ident::Key {
+    ghost from_gives = { λ v k. key_num k ≡ key_in (values_of v) };
+
+    fn from(v: Values) -> ident::Key {
+        let kind = v.kind;
+        let hash = ident::Hash::from(v.hash);
+        ident::Key { kind, hash }
+    }
 }
 
 // (No Default: these are the values before any field is read, which none but `read_form` should start from.)
