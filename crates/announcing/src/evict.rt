@@ -73,7 +73,7 @@ fn greater(best: Option<regions::Row>, r: regions::Row) -> Option<regions::Row>
     Some(r)
 }
 
-// The greatest of what has been found and of the rows of a window.
+// The greatest of what has been found and of the rows of a window. (A fold: its contract is that of the rows one by one.)
 fn greatest_in(s: &[u8], w: Window, best: Option<regions::Row>) -> Option<regions::Row>
     requires { Shown s.now × (w.to ≤ rows_in s.now) }
     ensures { (f : Flat) → Shows s.now f → found result ≡ greatest_over (found best) (part w.from w.to f.rows) }
@@ -117,7 +117,7 @@ pub fn victim_anywhere(s: &[u8]) -> Option<regions::Row>
     greatest_in(s, all, None)
 }
 
-// How many candidates of the table can be evicted, in one pass by the index, as the head of `regions` says of scans.
+// How many candidates of the table can be evicted. (A sum by the index: for `filter` and `count` what a turn adds would be a closure with a contract.)
 #[tactic(auto, using(crate::proofs::Lent::kept_long, requests::proofs::Keeping::kept_shown))]
 pub fn evictable(s: &[u8]) -> u64
     requires { Kept s.now }

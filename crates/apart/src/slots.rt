@@ -22,6 +22,7 @@ pub struct Spot {
 }
 
 // Which parents of a place were kept: those of the first half and the others, the first the least bit.
+// (Two numbers, no u128: a place has two words for them.)
 #[derive(Clone, Copy)]
 pub struct Note {
     pub low: u64,

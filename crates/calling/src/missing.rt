@@ -18,6 +18,7 @@ const MOST_KEYS: usize = 22_045;
 
 const ANSWER: usize = MOST_KEYS * lent_lists::KEY;
 
+// (By itself, as `printing::buffers` are: the contract names the value.)
 fn missing_buffer() -> [u8; ANSWER]
     ensures { result ≡ missing_buffer }
 {

@@ -26,7 +26,7 @@ pub fn later(clock: u64, t: u64) -> Option<u64>
     (clock < t).then_some(t)
 }
 
-// The earliest ready time among the rows of x, where none of them is ready.
+// The earliest ready time among the rows of x, where none of them is ready. (`any` is whether one is, and then no time is told: a fold, for one pass.)
 pub fn wait_in(s: &[u8], clock: u64, x: requests::Window) -> Option<u64>
     requires { Shown s.now × (x.to ≤ rows_in s.now) }
     ensures { (f : Flat) → Shows s.now f → option_of result ≡ wait_in clock (map candidate_at (part x.from x.to f.rows)) }

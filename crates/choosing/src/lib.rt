@@ -92,7 +92,7 @@ fn with_row(s: &[u8], clock: u64, p: Pick, best: Option<Pick>) -> Option<Pick>
 
 // ---- the rows of a key
 
-// The choice among the rows of x.
+// The choice among the rows of x. (A fold by the index: what is chosen is told with its place.)
 fn least_in(s: &[u8], clock: u64, x: requests::Window) -> Option<Pick>
     requires { Kept s.now × (x.to ≤ rows_in s.now) }
     ensures { Least s.now clock x.from x.to result }

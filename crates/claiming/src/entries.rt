@@ -29,7 +29,7 @@ const PREFERRED: usize = 12;
 
 const PRIORITY: usize = 13;
 
-// Stores the key k from the word w on: its kind, and its hash.
+// Stores the key k from the word w on: its kind, and its hash. (At a word of an entry, where those of lent_lists go by the index among keys.)
 fn put_key(u: &mut [u8], w: usize, k: ident::Key)
     requires { 8 * w + key_bytes ≤ length u.old }
     ensures { u.new ≡ splice u.old (8 * w) (key_answer (key_num k)) }

@@ -46,7 +46,8 @@ fn is_claim(s: &[u8], n: u64, r: regions::Row) -> bool
     q.stage == Some(Stage::Awaiting)
 }
 
-// The combined hash of the package of the request at the Wtxid key with hash h, where it is Awaiting.
+// The combined hash of the package of the request at the Wtxid key with hash h, where it is Awaiting. (Any hash where it is not: no Option,
+// since those who ask have tested it.)
 fn combined_of(s: &[u8], h: ident::Hash) -> ident::Hash
     requires { Kept s.now }
     ensures { Tells s.now (λ t. awaiting (at (wtxid (hash_num h)) t).«package» ≡ true → hash_num result ≡ combined_of (at (wtxid (hash_num h)) t).«package») }
@@ -77,7 +78,8 @@ fn room() -> [Claim; MOST] {
     [claim; MOST]
 }
 
-// Notes the claim of the row r, if it is one, behind m others; answers how many are noted then.
+// Notes the claim of the row r, if it is one, behind m others; answers how many are noted then. (m beside the array: the walk counts
+// them, and they are a slice once it is over.)
 fn note_claim(s: &[u8], n: u64, r: regions::Row, claims: &mut [Claim; MOST], m: usize) -> usize
     requires { Kept s.now × Tells s.now (λ t. is_claim_row n t r ≡ true → m < max_in_flight) }
     ensures { Noted n r s.now claims.old claims.new m result }

@@ -1,4 +1,5 @@
-// Arguments given in parts, as C has them: a candidate, whose flag is a bool, and a key by the number of its kind and its bytes.
+// Arguments given in parts, as C has them: a candidate, whose flag is a bool, and a key by the number of its kind and its bytes. (A Wtxid is
+// made of its bytes where it is given, by two constructors.)
 ghost use Rattle.std.specs.Prelude.{◌≡◌};
 ghost use Rattle.ident.specs.Words.{key_num};
 ghost use Rattle.requests.specs.Changes.{candidate_of};

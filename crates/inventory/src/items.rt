@@ -23,7 +23,7 @@ pub fn item_buffer() -> [u8; STORED]
     [0u8; STORED]
 }
 
-// The i-th item, as `lent_lists::item_at` reads it. (None is put there but from a line's list.)
+// The i-th item, as `lent_lists::item_at` reads it. (None is put there but from a line's list, so that it stands here and its reader there.)
 pub fn put_item(items: &mut [u8], i: usize, item: Named<ident::ItemKind>)
     requires { item_bytes * i + item_bytes ≤ length items.old }
     ensures { ItemPut items.old items.new i item.kind (quad_number item.hash) }

@@ -22,6 +22,7 @@ pub fn hashes(s: &[u8]) -> usize
     s.len() / ident::HASH_BYTES
 }
 
+// The i-th hash. (By its index, no `as_chunks` of the bytes: the definitions of lists go by take and drop, and a law of chunks beside them would be longer than the index.)
 pub fn hash_in(s: &[u8], i: usize) -> ident::Hash
     requires { i < length (hashes_in s.now) }
     ensures { hash_num result ≡ get_or (hashes_in s.now) i 0 }

@@ -17,6 +17,7 @@ use machine::limits::{MAX_PEER_ANNOUNCEMENTS, MAX_PEER_IN_FLIGHT};
 
 // What a pass counts: the owners, or the candidates' connections.
 trait Counted {
+    // Which of the two it is, for its contract alone.
     ghost owners: { Bool };
 
     // That of a line, if it has one.

@@ -95,6 +95,7 @@ fn stage_in(word: u64) -> Option<Stage>
     }
 }
 
+// (The connection as a number, which is what the machine compares: a `Connection` is made where a call asks for one.)
 #[derive(Clone, Copy)]
 pub struct Owner {
     pub connection: u64,

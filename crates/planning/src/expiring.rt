@@ -9,7 +9,7 @@ ghost use Rattle.planning.specs.Expiring.{SeekDue, behind, NextDue, MadeReady, E
 use apart::SLOT;
 use ident::connection::Connection;
 
-// An owner whose time is over: its request's key, and its connection.
+// An owner whose time is over: its request's key, and its connection, as a row has it.
 #[derive(Clone, Copy)]
 pub struct Overdue {
     pub key: ident::Key,

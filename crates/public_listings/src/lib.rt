@@ -21,7 +21,8 @@ pub fn save(s: &[u8], answer: &mut [u8]) -> Result<u64, Refusal>
     on_sound::save(s, answer)
 }
 
-// The rest of reading, of the listing of a sound state. Nothing was written before.
+// The rest of reading, of the listing of a sound state. Nothing was written before. (Length and cut
+// as in opening: what is written then differs.)
 fn restore_from(s: &mut [u8], l: Listing) -> Result<u64, Refusal>
     requires { Whole l.lines.text.now l.head l.lines.at }
     ensures { Leaves (Restore l.entry.lines.text.now) s.old s.new (reply_of result) }

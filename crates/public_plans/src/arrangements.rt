@@ -31,6 +31,7 @@ pub struct Stretch {
 }
 
 // The connection's part of the arranged list, which is given in 112 bytes an entry. Of a list that is not arranged it is some part.
+// (Two searches that differ in `<` and `<=`: each closure has the clause that its search needs.)
 pub fn part(list: &[u8], connection: u64) -> Stretch
     ensures { PartIs connection (entries_in list.now) result.first result.count }
 {

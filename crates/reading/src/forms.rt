@@ -109,7 +109,8 @@ fn with_bool(v: Values, f: u8, b: bool) -> Values
     }
 }
 
-// The field behind the comma at index e, which is of the letter f, among the values.
+// The field behind the comma at index e, which is of the letter f, among the values. (By the letter here for how it is read, and above for where it goes, as the
+// definition has it.)
 fn take_field(line: &[u8], e: usize, f: u8, v: Values) -> Option<Parsed<Values>>
     ensures { FieldTaken line.now e f (values_of v) result }
 {

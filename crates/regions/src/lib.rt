@@ -4,7 +4,8 @@
 // behind them up to its capacity, so that a list of records has one image. Contracts say what happens to any words, and what happens
 // to a region that holds a list of records: an insertion in the words is an insertion in the list. A `requires` says only that the
 // records in question lie within the slice. How many records a slice holds stands beside it: its length says only how many it can, and
-// the number is a word of the store's header. A scan goes by the index, of which its contract speaks.
+// the number is a word of the store's header. A scan goes by the index, of which its contract speaks: with `find` or `any` over a range
+// where it looks for one.
 #![tactic(auto)]
 
 ghost use Rattle.std.specs.Prelude.{◌≡◌, ℕ, ◌+◌, ◌*◌, ◌≤◌, ◌<◌, List, length, get_or, take, drop, ltb};

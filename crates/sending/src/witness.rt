@@ -93,6 +93,7 @@ fn for_witness(s: &[u8], witnesses: &[u8], known: Known, e: claiming::Entry) -> 
 }
 
 // Writes the j-th entry of the list as it is sent, as the i-th of the answer. Answers what is known then.
+// (Store, entries, witness connections and answer are lent apart; no step keeps two of them together.)
 pub fn put_turned(
     s: &[u8],
     list: &[u8],

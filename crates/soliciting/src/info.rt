@@ -19,7 +19,7 @@ use ident::connection::Connection;
 use machine::clock::Clock;
 use machine::limits::{MAX_PEER_IN_FLIGHT, REQUEST_LIFETIME};
 
-// "Announces w, preferred, priority 0, ready now"
+// "Announces w, preferred, priority 0, ready now" (`announcing::parents::offered` is a parent's, of another kind and priority.)
 fn soliciting(n: u64, h: ident::Hash, clock: u64) -> requests::Candidate
     ensures { candidate_of result ≡ machine.soliciting n (hash_num h) clock }
 {

@@ -98,7 +98,8 @@ fn seek_entry(pass: Pass, x: u64) -> usize
     conns.count
 }
 
-// ---- the slots (while they are filled, lent ones that change, with the mask beside them: `Guesses` holds them when they are)
+// ---- the slots (while they are filled, lent ones that change, with the mask beside them: `Guesses` holds them when they are. A type of the mask would hold one of its two
+// bounds: the other is of the slots too)
 
 // (Spread by a factor for each of its halves.)
 fn spread(x: u64, way: Way) -> u64 {

@@ -105,7 +105,7 @@ fn announce_one(s: &mut [u8], b: Batch, i: usize)
     announcing::announce(s, c);
 }
 
-// Where a part of a batch ends, and how many of it wait.
+// Where a part of a batch ends, and how many of it wait: at the front of an array of the caller's, which lends it from step to step.
 #[derive(Clone, Copy)]
 struct Part {
     next: usize,

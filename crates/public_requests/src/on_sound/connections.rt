@@ -5,6 +5,7 @@ ghost use Rattle.public_requests.specs.Counting.{counts_of, CountsOf};
 use crate::Counts;
 use outcome::{Refusal, refusals};
 
+// (Two of the three numbers of an entry, told once: no `From`.)
 pub fn counts(s: &[u8], connection: u64) -> Result<Counts, Refusal>
     requires { SoundStore s.now }
     ensures { CountsOf s.now connection (counts_of result) }
