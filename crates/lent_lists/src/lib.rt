@@ -55,6 +55,9 @@ pub const KEY: usize = 40;
 
 pub const KEYS: usize = MAX_PARENTS * KEY;
 
+// Words of a key and of an item: one, and a hash.
+const RECORD: usize = KEY / 8;
+
 // Bytes of an item, and of a priority.
 pub const ITEM: usize = 40;
 
@@ -83,7 +86,7 @@ pub fn item_at(b: &[u8], i: usize) -> ident::Item
     requires { i < length (items_in b.now) }
     ensures { (d : Item) → item_num result ≡ get_or (items_in b.now) i d }
 {
-    let kind = kind_in(words::get(b, i * 5));
+    let kind = kind_in(words::get(b, i * RECORD));
     let hash = ident::hash_at(b, i * ITEM + 8);
     ident::Item { kind, hash }
 }
@@ -102,7 +105,7 @@ pub fn put_key(u: &mut [u8], n: usize, k: ident::Key)
     requires { key_bytes * n + key_bytes ≤ length u.old }
     ensures { u.new ≡ splice u.old (key_bytes * n) (key_answer (key_num k)) }
 {
-    let w = n * 5;
+    let w = n * RECORD;
     words::put(u, w, u64::from(k.kind));
     ident::put_hash(u, w * 8 + 8, k.hash);
 }
@@ -114,7 +117,7 @@ pub fn key_at(u: &[u8], i: usize) -> ident::Key
     requires { key_bytes * i + key_bytes ≤ length u.now }
     ensures { key_num result ≡ key_in (take key_bytes (drop (key_bytes * i) u.now)) }
 {
-    let w = i * 5;
+    let w = i * RECORD;
     let kind = ident::Kind::from(words::get(u, w));
     let hash = ident::hash_at(u, w * 8 + 8);
     ident::Key { kind, hash }

@@ -43,8 +43,8 @@ fn least_hash(rows: Records<Row>, i: usize, m: usize, j: usize) -> Quad
     x
 }
 
-// The first of the rows whose hash is above h, or the part's end. (A loop: tried with `find`, which left the clause itself open. It speaks
-// of rows by their index, and `find` of the items that calls of a range's `next` gave.)
+// The first of the rows whose hash is above h, or the part's end. (A loop, which proves by its invariant alone: `find`, as in regions::find_conn_in, takes a law of what a
+// range yields.)
 pub fn run_end(part: Part, h: Quad) -> usize
     ensures { Run (words part.entry.rows.bytes.now) part.entry.from part.entry.to (quad_number h) result }
 {
