@@ -16,6 +16,7 @@ use machine::limits::MAX_PARENTS;
 
 // ---- hashes in
 
+// So many as stand whole in the bytes. (A function for each kind of list: the clause names the list.)
 pub fn hashes(s: &[u8]) -> usize
     ensures { result ≡ length (hashes_in s.now) }
 {

@@ -127,7 +127,7 @@ fn candidates_of(s: &[u8], k: ident::Key) -> usize
     w.to - w.from
 }
 
-// How many candidates the hash h has, over both kinds.
+// How many candidates the hash h has, over both kinds. (Both keys of a hash by their two constructors, wherever both are wanted: of a pair each reader would take them apart again.)
 pub fn candidates_at(s: &[u8], h: ident::Hash) -> usize
     requires { Kept s.now }
     ensures { Tells s.now (λ t. result ≡ held_at (hash_num h) t) }
