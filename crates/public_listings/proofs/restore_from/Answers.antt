@@ -11,9 +11,6 @@ need-n-requires c = (whole_limit c.requires, whole_places c.requires)
 pub returns-then-s-n : goal.returns-then-s-n
 returns-then-s-n c = short-store _ _ c.requires (omega (arith, c.need-n.ensures))
 
-pub slice_bounds-write_from-end-2 : goal.slice_bounds-write_from-end-2
-slice_bounds-write_from-end-2 c = simp length-take (omega arith)
-
 pub write_from-requires : goal.write_from-requires
 write_from-requires c = whole_readable c.requires _ (simp length-take (omega (arith, c.need-n.ensures)))
 

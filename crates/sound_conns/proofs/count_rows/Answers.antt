@@ -41,8 +41,3 @@ loop-i-preserved c =
           c.get-r.ensures.words_are
           c.loop-i.invariant.2 _ b.1 (rw e at b.0),
     )
-
-pub returns : goal.returns
-returns c =
-    let e : c.loop-i.i ≡ c.args.rows.count = omega arith in
-    (rw e at c.loop-i.invariant.2, search rules)

@@ -4,51 +4,6 @@ use Rattle.asking.specs.Given.{asked_line, asked_in}
 use Rattle.keeping.proofs.Stepping.{step_unread, step_keeps, step_is}
 use Rattle.answering.proofs.answers.answer_line.Goals as goal
 
-pub unreadable-requires : goal.unreadable-requires
-unreadable-requires c = c.requires.0
-
-pub answer_open-requires : goal.answer_open-requires
-answer_open-requires c = c.requires.0
-
-pub answer_sum-requires : goal.answer_sum-requires
-answer_sum-requires c = c.requires.0
-
-pub answer_leaving-requires : goal.answer_leaving-requires
-answer_leaving-requires c = c.requires.0
-
-pub answer_offers-requires : goal.answer_offers-requires
-answer_offers-requires c =
-    c.requires
-
-pub answer_plan-requires : goal.answer_plan-requires
-answer_plan-requires c = c.requires.0
-
-pub answer_want-requires : goal.answer_want-requires
-answer_want-requires c = c.requires
-
-pub answer_missing-requires : goal.answer_missing-requires
-answer_missing-requires c =
-    c.requires
-
-pub answer_take-requires : goal.answer_take-requires
-answer_take-requires c = c.requires.0
-
-pub answer_send-requires : goal.answer_send-requires
-answer_send-requires c = c.requires
-
-pub answer_part-requires : goal.answer_part-requires
-answer_part-requires c = c.requires.0
-
-pub answer_number-requires : goal.answer_number-requires
-answer_number-requires c = c.requires.0
-
-pub answer_keys-requires : goal.answer_keys-requires
-answer_keys-requires c = c.requires.0
-
-pub answer_hashes-requires : goal.answer_hashes-requires
-answer_hashes-requires c =
-    c.requires
-
 pub returns-in_default : goal.returns-in_default
 returns-in_default c = step_unread (sym (ap (asked_in _) c.in_default.is) ∙ c.call_of.ensures) refl c.unreadable.ensures
 

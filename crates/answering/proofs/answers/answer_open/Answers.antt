@@ -1,12 +1,8 @@
 -- `answering::answers::answer_open` meets its contract.
 use mathlib.Core.Path.{refl, ap}
-use native.Mathlib.Omega.{arith}
 use Rattle.outcome.specs.Reply.{reply_of}
 use Rattle.answering.proofs.Opening.{step_refused, step_opened}
 use Rattle.answering.proofs.answers.answer_open.Goals as goal
-
-pub put_bytes-requires : goal.put_bytes-requires
-put_bytes-requires c = omega (arith, c.requires)
 
 pub returns-in-Err : goal.returns-in-Err
 returns-in-Err c = step_refused c.args.l c.args.q c.«open».ensures refl (ap reply_of c.in-Err.is) c.refusal.ensures

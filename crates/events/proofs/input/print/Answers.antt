@@ -3,8 +3,5 @@ use mathlib.Core.Path.{refl}
 use Rattle.keeping.proofs.Stepping.{step_unread}
 use Rattle.events.proofs.input.print.Goals as goal
 
-pub returns-in-Whole : goal.returns-in-Whole
-returns-in-Whole c = rw c.in-Whole.is c.answer_line.ensures
-
 pub returns-in-TooLong : goal.returns-in-TooLong
 returns-in-TooLong c = rw c.in-TooLong.is (step_unread refl refl c.unreadable.ensures)

@@ -19,9 +19,3 @@ loop-preserved _ c = let t = c.loop.invariant.1 in (
   omega (arith, c.read_some.auto, c.loop.invariant.0),
   took_more t (c.read_some.ensures t.all.next t.all.held),
 )
-
-pub shape_of-store : goal.shape_of-store
-shape_of-store _ c = c.loop.invariant.0
-
-pub returns : goal.returns
-returns _ c = c.loop.invariant.1

@@ -5,6 +5,3 @@ use Rattle.events.proofs.input.read_some.Goals as goal
 
 pub returns-then-n-eq0 : goal.returns-then-n-eq0
 returns-then-n-eq0 _ c = λ p g. record { bytes = []; all = took_none g }
-
-pub returns : goal.returns
-returns _ c = λ p g. record { bytes = _; all = c.take_all.ensures p g }

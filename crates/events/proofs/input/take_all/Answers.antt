@@ -17,8 +17,5 @@ loop-b-preserved _ c = (
       c.loop-b.b-index (omega arith)),
 )
 
-pub shape_of-store : goal.shape_of-store
-shape_of-store _ c = c.loop-b.invariant.0
-
 pub returns : goal.returns
 returns _ c = λ p g. took_whole c.loop-b.b-index (omega arith) (c.loop-b.invariant.2 p g)

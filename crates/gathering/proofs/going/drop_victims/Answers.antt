@@ -25,9 +25,6 @@ loop-i-preserved c = dropping_more c.loop-i.invariant (omega
     (arith, c.rows-n.ensures.word, c.loop-i-test.true)) c.drop_row-k.auto.s
     c.drop_row-k.ensures
 
-pub invariant_of-rest : goal.invariant_of-rest
-invariant_of-rest c = record { order = omega (arith, c.loop-i.invariant.less, c.loop-i.invariant.most, c.rows-n.ensures.word) }
-
 pub drop_rows-requires : goal.drop_rows-requires
 drop_rows-requires c = (
   dropping_shown c.loop-i.invariant c.requires.0,

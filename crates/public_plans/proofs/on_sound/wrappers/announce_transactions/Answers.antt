@@ -11,9 +11,6 @@ pub returns-in_err-connection : goal.returns-in_err-connection
 returns-in_err-connection c =
     rw (hands-on _ c.from_residual.ensures.1) (refused (announces-transactions _ _ _ _ _).names c.requires _ c.in_err-connection.ensures.test)
 
-pub announce_transactions-requires : goal.announce_transactions-requires
-announce_transactions-requires c = c.need_of-n.ensures.kept
-
 pub returns : goal.returns
 returns c =
     yes-no_done (announces-transactions _ _ _ _ _) c.requires
