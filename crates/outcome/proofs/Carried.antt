@@ -34,13 +34,15 @@ use Rattle.outcome.proofs.Contract.{does-carried, does-nothing, does-refused}
 
 -- ---- refused, by what a test after the sound test answers
 
-pub asked-refused : (a : Ask) {b : List ℕ} (v : SoundStore b) {u : Buffer} → u ≡ (named a v.state).buffer → (e : Refusal) → number_of e ≡ ask_refusal true a v.state
+pub asked-refused : (a : Ask) {b : List ℕ} (v : SoundStore b) {u : Buffer} → u ≡ (named a v.state).buffer → (t : ℕ) → t ≡ ask_refusal true a v.state → (t ≡ 0 → ⊥)
+    → Does (On a) b (record { reply = Refused t; buffer = u; store = b })
+asked-refused a v q zero e h = absurd (h refl)
+asked-refused a {b} v q (suc m) e h = does-refused b _ a v m (sym e) refl q refl
+
+-- the same by the refusal that the test answers
+pub asked_refused_by : (a : Ask) {b : List ℕ} (v : SoundStore b) {u : Buffer} → u ≡ (named a v.state).buffer → (e : Refusal) → number_of e ≡ ask_refusal true a v.state
     → Does (On a) b (record { reply = Refused (number_of e); buffer = u; store = b })
-asked-refused a {b} v {u} q e p = by_number (number_of e) p (never_none e)
-  where
-    by_number : (t : ℕ) → t ≡ ask_refusal true a v.state → (t ≡ 0 → ⊥) → Does (On a) b (record { reply = Refused t; buffer = u; store = b })
-    by_number zero d h = absurd (h refl)
-    by_number (suc m) d h = does-refused b _ a v m (sym d) refl q refl
+asked_refused_by a v q e p = asked-refused a v q (number_of e) p (never_none e)
 
 -- ---- the tests 4 to 7, of a call that takes no place
 
@@ -70,8 +72,11 @@ module _ {a : Ask} {ns ts : List ℕ} {parents : ℕ} {u : Buffer} {m : State �
   answer-buffer = rw (k.are v.state)
 
   -- by what they answer: the call is refused, or it may be carried out
-  pub refused : (e : Refusal) → number_of e ≡ in_turn ns ts parents (length u) (m v.state) → Does (On a) b (record { reply = Refused (number_of e); buffer = u; store = b })
-  refused e q = asked-refused a v answer-buffer e (q ∙ sym asked)
+  pub refused : {t : ℕ} → t ≡ in_turn ns ts parents (length u) (m v.state) → (t ≡ 0 → ⊥) → Does (On a) b (record { reply = Refused t; buffer = u; store = b })
+  refused {t} q = asked-refused a v answer-buffer t (q ∙ sym asked)
+
+  pub refused_by : (e : Refusal) → number_of e ≡ in_turn ns ts parents (length u) (m v.state) → Does (On a) b (record { reply = Refused (number_of e); buffer = u; store = b })
+  refused_by e q = refused q (never_none e)
 
   pub passes : 0 ≡ in_turn ns ts parents (length u) (m v.state) → ask_refusal true a v.state ≡ 0
   passes q = asked ∙ sym q

@@ -21,7 +21,7 @@ use Rattle.outcome.specs.Outcome.{Leaves}
 use Rattle.outcome.specs.Tests.{first_of, of_place, in_turn}
 use Rattle.outcome.specs.Lent.{Lent}
 use Rattle.outcome.proofs.Turns.{Passed, passed, first_left, first_right, free-place, timely_turn}
-use Rattle.outcome.proofs.Carried.{asked-refused, replies_done}
+use Rattle.outcome.proofs.Carried.{asked_refused_by, replies_done}
 
 -- bytes of the need that write a state: so does the store
 stored_as : {b : List ℕ} {m : ℕ} → Lent b m → (st : State) → Sound st → Writes (take m b) st → SoundStore b
@@ -52,7 +52,7 @@ module _ (n h clock : ℕ) (hs : List ℕ) where
   -- refused by what they answer
   pub solicit-refused : {b : List ℕ} (v : SoundStore b) (e : Refusal) → number_of e ≡ ask_refusal true ask v.state → Leaves (On ask) b b (Refused (number_of e))
   unfolding named
-  solicit-refused v e q = asked-refused ask v refl e q
+  solicit-refused v e q = asked_refused_by ask v refl e q
 
   -- or not, of whatever state the bytes write
   module _ {b : List ℕ} (q : (w : SoundStore b) → 0 ≡ ask_refusal true ask w.state) where

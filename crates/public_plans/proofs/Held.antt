@@ -21,7 +21,7 @@ use Rattle.outcome.specs.Refusals.{number_of}
 use Rattle.outcome.specs.Outcome.{Does}
 use Rattle.outcome.specs.Tests.{of_connections, of_clocks, of_parents, of_place, of_hashes, hashes_in_turn}
 use Rattle.outcome.specs.Lent.{Lent}
-use Rattle.outcome.proofs.Turns.{whole_turn, first_none}
+use Rattle.outcome.proofs.Turns.{never_none, whole_turn, first_none}
 use Rattle.outcome.proofs.Contract.{does-nothing}
 use Rattle.outcome.proofs.Carried.{asked-refused, front_writes}
 
@@ -48,9 +48,12 @@ module _ (hs : List ℕ) (u : Buffer) where
   buffer_is s = refl
 
   module _ {b : List ℕ} (v : SoundStore b) where
-    pub owners-refused : (e : Refusal) → number_of e ≡ hashes_in_turn hs (length u) (owner_bytes * length hs)
+    pub owners-refused : {t : ℕ} → t ≡ hashes_in_turn hs (length u) (owner_bytes * length hs) → (t ≡ 0 → ⊥) → Does (On (OwnersOf hs u)) b (record { reply = Refused t; buffer = u; store = b })
+    owners-refused {t} q = asked-refused (OwnersOf hs u) v (buffer_is v.state) t (q ∙ sym (asked v.state))
+
+    pub owners_refused_by : (e : Refusal) → number_of e ≡ hashes_in_turn hs (length u) (owner_bytes * length hs)
         → Does (On (OwnersOf hs u)) b (record { reply = Refused (number_of e); buffer = u; store = b })
-    owners-refused e q = asked-refused (OwnersOf hs u) v (buffer_is v.state) e (q ∙ sym (asked v.state))
+    owners_refused_by e q = owners-refused q (never_none e)
 
     pub owners_done : 0 ≡ hashes_in_turn hs (length u) (owner_bytes * length hs) → {m : ℕ} → Lent b m → Bytes b → {u' : List ℕ} {n : ℕ} → OwnersListed (take m b) hs u u' n
         → Does (On (OwnersOf hs u)) b (record { reply = Owned n (holdings_in hs u'); buffer = u'; store = b })

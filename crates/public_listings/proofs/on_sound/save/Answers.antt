@@ -3,7 +3,7 @@ use mathlib.Core.Path.{◌∙◌}
 use native.Mathlib.Omega.{arith}
 use Rattle.outcome.proofs.Turns.{passed}
 use Rattle.outcome.proofs.Exits.{hands-on}
-use Rattle.outcome.proofs.Carried.{refused, front_writes, texts_done}
+use Rattle.outcome.proofs.Carried.{refused_by, front_writes, texts_done}
 use Rattle.public_listings.proofs.Instances.{saves}
 use Rattle.public_listings.proofs.on_sound.save.Goals as goal
 
@@ -12,7 +12,7 @@ returns-in_err-of_buffer c =
     let v = c.requires in
     let x = front_writes v c.need_of-n.ensures in
     rw (hands-on _ c.from_residual.ensures.1)
-    (refused (saves _).names v _ (c.in_err-of_buffer.ensures ∙ rw (c.length-needs.ensures v.state v.sound x)))
+    (refused_by (saves _).names v _ (c.in_err-of_buffer.ensures ∙ rw (c.length-needs.ensures v.state v.sound x)))
 
 pub returns : goal.returns
 returns c =

@@ -3,13 +3,13 @@ use mathlib.Core.Path.{◌∙◌}
 use native.Mathlib.Omega.{arith}
 use Rattle.outcome.proofs.Turns.{passed}
 use Rattle.outcome.proofs.Exits.{hands-on}
-use Rattle.outcome.proofs.Carried.{refused, front_limit, front_places}
+use Rattle.outcome.proofs.Carried.{refused_by, front_limit, front_places}
 use Rattle.public_packages.proofs.Departed.{departs, departs_done}
 use Rattle.public_packages.proofs.on_sound.departures.disconnected.Goals as goal
 
 pub returns-in_err-connection : goal.returns-in_err-connection
 returns-in_err-connection c =
-    rw (hands-on _ c.from_residual.ensures.1) (refused (departs _ _ _) c.requires _ (c.in_err-connection.ensures.test ∙ rw (c.departure_needs-needs.ensures c.requires)))
+    rw (hands-on _ c.from_residual.ensures.1) (refused_by (departs _ _ _) c.requires _ (c.in_err-connection.ensures.test ∙ rw (c.departure_needs-needs.ensures c.requires)))
 
 pub disconnected-left-requires : goal.disconnected-left-requires
 disconnected-left-requires c =

@@ -1,13 +1,13 @@
 -- `public_packages::on_sound::package_calls::claim_package` meets its contract: an instance of crates/outcome/proofs/Carried.
 use native.Mathlib.Omega.{arith}
 use Rattle.outcome.proofs.Exits.{hands-on}
-use Rattle.outcome.proofs.Carried.{refused, yes-no_done}
+use Rattle.outcome.proofs.Carried.{refused_by, yes-no_done}
 use Rattle.public_packages.proofs.Instances.{claims-package}
 use Rattle.public_packages.proofs.on_sound.package_calls.claim_package.Goals as goal
 
 pub returns-in_err-of_connection_and_clock : goal.returns-in_err-of_connection_and_clock
 returns-in_err-of_connection_and_clock c =
-    rw (hands-on _ c.from_residual.ensures.1) (refused (claims-package _ _ _ _ _).names c.requires _ c.in_err-of_connection_and_clock.ensures.test)
+    rw (hands-on _ c.from_residual.ensures.1) (refused_by (claims-package _ _ _ _ _).names c.requires _ c.in_err-of_connection_and_clock.ensures.test)
 
 pub returns : goal.returns
 returns c =

@@ -2,7 +2,7 @@
 use native.Mathlib.Omega.{arith}
 use Rattle.outcome.proofs.Turns.{passed}
 use Rattle.outcome.proofs.Exits.{hands-on}
-use Rattle.outcome.proofs.Carried.{refused, lists_done}
+use Rattle.outcome.proofs.Carried.{refused_by, lists_done}
 use Rattle.public_packages.proofs.Instances.{releases-package}
 use Rattle.soliciting.proofs.Subject.{subject_below}
 use Rattle.outcome.proofs.ListedKeys.{released_typed}
@@ -10,7 +10,7 @@ use Rattle.public_packages.proofs.on_sound.package_calls.release_package.Goals a
 
 pub returns-in_err-connection : goal.returns-in_err-connection
 returns-in_err-connection c =
-    rw (hands-on _ c.from_residual.ensures.1) (refused (releases-package _ _ _ _).names c.requires _ c.in_err-connection.ensures.test)
+    rw (hands-on _ c.from_residual.ensures.1) (refused_by (releases-package _ _ _ _).names c.requires _ c.in_err-connection.ensures.test)
 
 pub release_package-listed-requires : goal.release_package-listed-requires
 release_package-listed-requires c =

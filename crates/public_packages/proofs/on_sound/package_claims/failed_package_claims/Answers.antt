@@ -3,14 +3,14 @@ use native.Mathlib.Omega.{arith}
 use Rattle.machine.proofs.Fail.{Peer}
 use Rattle.outcome.proofs.Turns.{some_connection, passed, sized}
 use Rattle.outcome.proofs.Exits.{hands-on}
-use Rattle.outcome.proofs.Carried.{refused, front_places, lists_done}
+use Rattle.outcome.proofs.Carried.{refused_by, front_places, lists_done}
 use Rattle.outcome.proofs.ListedKeys.{claims-typed}
 use Rattle.public_packages.proofs.Instances.{fails-claims}
 use Rattle.public_packages.proofs.on_sound.package_claims.failed_package_claims.Goals as goal
 
 pub returns-in_err-connection : goal.returns-in_err-connection
 returns-in_err-connection c =
-    rw (hands-on _ c.from_residual.ensures.1) (refused (fails-claims _ _ _ _).names c.requires _ (sized _ _ _ _ c.in_err-connection.ensures.test (c.claims_needs-needs.ensures c.requires)))
+    rw (hands-on _ c.from_residual.ensures.1) (refused_by (fails-claims _ _ _ _).names c.requires _ (sized _ _ _ _ c.in_err-connection.ensures.test (c.claims_needs-needs.ensures c.requires)))
 
 pub failed_package_claims-listed-requires : goal.failed_package_claims-listed-requires
 failed_package_claims-listed-requires c =

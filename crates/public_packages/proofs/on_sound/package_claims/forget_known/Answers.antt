@@ -2,14 +2,14 @@
 use mathlib.Core.Path.{refl}
 use native.Mathlib.Omega.{arith}
 use Rattle.outcome.proofs.Exits.{hands-on}
-use Rattle.outcome.proofs.Carried.{refused, yes-no_done}
+use Rattle.outcome.proofs.Carried.{refused_by, yes-no_done}
 use Rattle.public_packages.proofs.Instances.{forgets_known}
 use Rattle.outcome.proofs.Replies.{silent-within}
 use Rattle.public_packages.proofs.on_sound.package_claims.forget_known.Goals as goal
 
 pub returns-in_err-of_clock : goal.returns-in_err-of_clock
 returns-in_err-of_clock c =
-    rw (hands-on _ c.from_residual.ensures.1) (refused (forgets_known _ _).names c.requires _ c.in_err-of_clock.ensures.test)
+    rw (hands-on _ c.from_residual.ensures.1) (refused_by (forgets_known _ _).names c.requires _ c.in_err-of_clock.ensures.test)
 
 pub returns : goal.returns
 returns c =

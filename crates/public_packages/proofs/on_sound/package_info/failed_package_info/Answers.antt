@@ -1,13 +1,13 @@
 -- `public_packages::on_sound::package_info::failed_package_info` meets its contract: an instance of crates/outcome/proofs/Carried.
 use native.Mathlib.Omega.{arith}
 use Rattle.outcome.proofs.Exits.{hands-on}
-use Rattle.outcome.proofs.Carried.{refused, yes-no_done}
+use Rattle.outcome.proofs.Carried.{refused_by, yes-no_done}
 use Rattle.public_packages.proofs.Instances.{fails-info}
 use Rattle.public_packages.proofs.on_sound.package_info.failed_package_info.Goals as goal
 
 pub returns-in_err-of_connection_and_clock : goal.returns-in_err-of_connection_and_clock
 returns-in_err-of_connection_and_clock c =
-    rw (hands-on _ c.from_residual.ensures.1) (refused (fails-info _ _ _).names c.requires _ c.in_err-of_connection_and_clock.ensures.test)
+    rw (hands-on _ c.from_residual.ensures.1) (refused_by (fails-info _ _ _).names c.requires _ c.in_err-of_connection_and_clock.ensures.test)
 
 pub returns : goal.returns
 returns c =

@@ -6,14 +6,14 @@ use Rattle.ident.specs.declared.connection.Connection.{Connection}
 use native.Mathlib.Omega.{arith}
 use Rattle.std.proofs.Common.{rules}
 use Rattle.outcome.proofs.Exits.{hands-on}
-use Rattle.outcome.proofs.Carried.{refused}
+use Rattle.outcome.proofs.Carried.{refused_by}
 use Rattle.outcome.proofs.Replies.{reads_done}
 use Rattle.public_packages.proofs.Instances.{reads-owner}
 use Rattle.public_packages.proofs.on_sound.package_info.package_info_owner.Goals as goal
 
 pub returns-in_err-of_clock : goal.returns-in_err-of_clock
 returns-in_err-of_clock c =
-    rw (hands-on _ c.from_residual.ensures.1) (refused (reads-owner _ _).names c.requires _ c.in_err-of_clock.ensures.test)
+    rw (hands-on _ c.from_residual.ensures.1) (refused_by (reads-owner _ _).names c.requires _ c.in_err-of_clock.ensures.test)
 
 -- an owner's number, or 0 for none, is what the machine says
 told : (o : Option Connection) {r x : ℕ} → MatchOption o (r ≡ 0) (λ n. r ≡ n.number) → MatchOption o (x ≡ 0) (λ n. n.number ≡ x) → r ≡ x

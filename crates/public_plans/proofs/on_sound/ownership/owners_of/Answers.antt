@@ -4,20 +4,20 @@ use native.Mathlib.Omega.{arith}
 use Rattle.lent_lists.specs.Lists.{hashes_in}
 use Rattle.outcome.proofs.Turns.{hashes-wrong, hashes-sized, passed-hashes}
 use Rattle.outcome.proofs.Exits.{hands-on}
-use Rattle.public_plans.proofs.Held.{right_order, sized-hashes, owners-refused, owners_done}
+use Rattle.public_plans.proofs.Held.{right_order, sized-hashes, owners_refused_by, owners_done}
 use Rattle.outcome.specs.declared.refusal.Refusal.TheVariants.{WrongHashes}
 use Rattle.public_plans.proofs.on_sound.ownership.owners_of.Goals as goal
 
 pub returns-then-wrong : goal.returns-then-wrong
 returns-then-wrong c =
     let hs = hashes_in c.args.hashes.now in
-    owners-refused hs _ c.requires WrongHashes (hashes-wrong hs _ _ (sym c.if-wrong.true ∙ c.wrong.ensures))
+    owners_refused_by hs _ c.requires WrongHashes (hashes-wrong hs _ _ (sym c.if-wrong.true ∙ c.wrong.ensures))
 
 pub returns-in_err-of_buffer : goal.returns-in_err-of_buffer
 returns-in_err-of_buffer c =
     let hs = hashes_in c.args.hashes.now in
     rw (hands-on _ c.from_residual.ensures.1)
-    (owners-refused hs _ c.requires _ (sized-hashes hs _ (c.in_err-of_buffer.ensures ∙ hashes-sized hs _ _ (sym c.if-wrong.false ∙ c.wrong.ensures)) c.needs-needs.ensures))
+    (owners_refused_by hs _ c.requires _ (sized-hashes hs _ (c.in_err-of_buffer.ensures ∙ hashes-sized hs _ _ (sym c.if-wrong.false ∙ c.wrong.ensures)) c.needs-needs.ensures))
 
 pub owners_of-passed-requires : goal.owners_of-passed-requires
 owners_of-passed-requires c =

@@ -3,14 +3,14 @@ use mathlib.Core.Path.{◌∙◌}
 use native.Mathlib.Omega.{arith}
 use Rattle.outcome.proofs.Turns.{passed}
 use Rattle.outcome.proofs.Exits.{hands-on}
-use Rattle.outcome.proofs.Carried.{refused}
+use Rattle.outcome.proofs.Carried.{refused_by}
 use Rattle.public_plans.proofs.Entered.{length-entries, entries_whole}
 use Rattle.public_plans.proofs.Taken.{claims, claims_done}
 use Rattle.public_plans.proofs.on_sound.plans.claim.Goals as goal
 
 pub returns-in_err-clock : goal.returns-in_err-clock
 returns-in_err-clock c =
-    rw (hands-on _ c.from_residual.ensures.1) (refused (claims _ _ _) c.requires _ (c.in_err-clock.ensures.test ∙ rw c.list_needs-needs.ensures))
+    rw (hands-on _ c.from_residual.ensures.1) (refused_by (claims _ _ _) c.requires _ (c.in_err-clock.ensures.test ∙ rw c.list_needs-needs.ensures))
 
 pub claim_bytes-taken-requires : goal.claim_bytes-taken-requires
 claim_bytes-taken-requires c =

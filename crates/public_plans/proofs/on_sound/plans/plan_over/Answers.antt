@@ -3,13 +3,13 @@ use native.Mathlib.Omega.{arith}
 use Rattle.planning.specs.Replying.{asked_in}
 use Rattle.outcome.proofs.Turns.{passed, sized}
 use Rattle.outcome.proofs.Exits.{hands-on}
-use Rattle.outcome.proofs.Carried.{refused, front_limit}
+use Rattle.outcome.proofs.Carried.{refused_by, front_limit}
 use Rattle.public_plans.proofs.Planned.{plans, asked_typed, plans_done}
 use Rattle.public_plans.proofs.on_sound.plans.plan_over.Goals as goal
 
 pub returns-in_err-clock : goal.returns-in_err-clock
 returns-in_err-clock c =
-    rw (hands-on _ c.from_residual.ensures.1) (refused (plans _ _ _) c.requires.0 _ (sized _ _ _ _ c.in_err-clock.ensures.test (c.plan_needs-needs.ensures c.requires.0)))
+    rw (hands-on _ c.from_residual.ensures.1) (refused_by (plans _ _ _) c.requires.0 _ (sized _ _ _ _ c.in_err-clock.ensures.test (c.plan_needs-needs.ensures c.requires.0)))
 
 pub plan-planned-requires : goal.plan-planned-requires
 plan-planned-requires c =

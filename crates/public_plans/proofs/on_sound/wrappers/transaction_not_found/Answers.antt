@@ -4,14 +4,14 @@ use Rattle.machine.proofs.Fail.{Peer}
 use Rattle.lent_lists.proofs.Inventory.{items-fit}
 use Rattle.outcome.proofs.Turns.{some_connection, passed, sized}
 use Rattle.outcome.proofs.Exits.{hands-on}
-use Rattle.outcome.proofs.Carried.{refused, front_places, lists_done}
+use Rattle.outcome.proofs.Carried.{refused_by, front_places, lists_done}
 use Rattle.outcome.proofs.ListedKeys.{missing-typed}
 use Rattle.public_plans.proofs.Instances.{misses}
 use Rattle.public_plans.proofs.on_sound.wrappers.transaction_not_found.Goals as goal
 
 pub returns-in_err-connection : goal.returns-in_err-connection
 returns-in_err-connection c =
-    rw (hands-on _ c.from_residual.ensures.1) (refused (misses _ _ _ _).names c.requires _ (sized _ _ _ _ c.in_err-connection.ensures.test (c.missing_needs-needs.ensures c.requires)))
+    rw (hands-on _ c.from_residual.ensures.1) (refused_by (misses _ _ _ _).names c.requires _ (sized _ _ _ _ c.in_err-connection.ensures.test (c.missing_needs-needs.ensures c.requires)))
 
 pub transaction_not_found-listed-requires : goal.transaction_not_found-listed-requires
 transaction_not_found-listed-requires c =

@@ -2,14 +2,14 @@
 use mathlib.Core.Path.{refl}
 use native.Mathlib.Omega.{arith}
 use Rattle.outcome.proofs.Exits.{hands-on}
-use Rattle.outcome.proofs.Carried.{refused, yes-no_done}
+use Rattle.outcome.proofs.Carried.{refused_by, yes-no_done}
 use Rattle.outcome.proofs.Replies.{silent-answer}
 use Rattle.public_plans.proofs.Instances.{completes}
 use Rattle.public_plans.proofs.on_sound.wrappers.transaction_response_completed.Goals as goal
 
 pub returns-in_err-of_connection_and_clock : goal.returns-in_err-of_connection_and_clock
 returns-in_err-of_connection_and_clock c =
-    rw (hands-on _ c.from_residual.ensures.1) (refused (completes _ _ _ _).names c.requires _ c.in_err-of_connection_and_clock.ensures.test)
+    rw (hands-on _ c.from_residual.ensures.1) (refused_by (completes _ _ _ _).names c.requires _ c.in_err-of_connection_and_clock.ensures.test)
 
 pub returns : goal.returns
 returns c =

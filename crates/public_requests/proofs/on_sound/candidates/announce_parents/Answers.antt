@@ -3,14 +3,14 @@ use mathlib.Core.Path.{◌∙◌}
 use native.Mathlib.Omega.{arith}
 use Rattle.outcome.proofs.Turns.{passed}
 use Rattle.outcome.proofs.Exits.{hands-on}
-use Rattle.outcome.proofs.Carried.{refused, lists_done}
+use Rattle.outcome.proofs.Carried.{refused_by, lists_done}
 use Rattle.public_requests.proofs.Instances.{announces-parents}
 use Rattle.outcome.proofs.ListedKeys.{parents-typed}
 use Rattle.public_requests.proofs.on_sound.candidates.announce_parents.Goals as goal
 
 pub returns-in_err-connection : goal.returns-in_err-connection
 returns-in_err-connection c =
-    rw (hands-on _ c.from_residual.ensures.1) (refused (announces-parents _ _ _ _).names c.requires _ (c.in_err-connection.ensures.test ∙ rw c.hashes-count.ensures))
+    rw (hands-on _ c.from_residual.ensures.1) (refused_by (announces-parents _ _ _ _).names c.requires _ (c.in_err-connection.ensures.test ∙ rw c.hashes-count.ensures))
 
 pub announce_parents-listed-requires : goal.announce_parents-listed-requires
 announce_parents-listed-requires c =

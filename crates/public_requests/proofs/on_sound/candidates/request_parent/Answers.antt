@@ -1,13 +1,13 @@
 -- `public_requests::on_sound::candidates::request_parent` meets its contract: an instance of crates/outcome/proofs/Carried.
 use native.Mathlib.Omega.{arith}
 use Rattle.outcome.proofs.Exits.{hands-on}
-use Rattle.outcome.proofs.Carried.{refused, yes-no_done}
+use Rattle.outcome.proofs.Carried.{refused_by, yes-no_done}
 use Rattle.public_requests.proofs.Instances.{requests-parent}
 use Rattle.public_requests.proofs.on_sound.candidates.request_parent.Goals as goal
 
 pub returns-in_err-of_connection : goal.returns-in_err-of_connection
 returns-in_err-of_connection c =
-    rw (hands-on _ c.from_residual.ensures.1) (refused (requests-parent _).names c.requires _ c.in_err-of_connection.ensures.test)
+    rw (hands-on _ c.from_residual.ensures.1) (refused_by (requests-parent _).names c.requires _ c.in_err-of_connection.ensures.test)
 
 pub returns : goal.returns
 returns c =

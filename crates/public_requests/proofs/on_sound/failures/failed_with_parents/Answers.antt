@@ -2,7 +2,7 @@
 use native.Mathlib.Omega.{arith}
 use Rattle.outcome.proofs.Turns.{passed}
 use Rattle.outcome.proofs.Exits.{hands-on}
-use Rattle.outcome.proofs.Carried.{refused, lists_done}
+use Rattle.outcome.proofs.Carried.{refused_by, lists_done}
 use Rattle.public_requests.proofs.Instances.{fails_with_parents}
 use Rattle.outcome.proofs.ListedKeys.{failed-typed}
 use Rattle.outcome.proofs.Widths.{key-typed}
@@ -10,7 +10,7 @@ use Rattle.public_requests.proofs.on_sound.failures.failed_with_parents.Goals as
 
 pub returns-in_err-connection : goal.returns-in_err-connection
 returns-in_err-connection c =
-    rw (hands-on _ c.from_residual.ensures.1) (refused (fails_with_parents _ _ _ _).names c.requires _ c.in_err-connection.ensures.test)
+    rw (hands-on _ c.from_residual.ensures.1) (refused_by (fails_with_parents _ _ _ _).names c.requires _ c.in_err-connection.ensures.test)
 
 pub failed_with_parents-listed-requires : goal.failed_with_parents-listed-requires
 failed_with_parents-listed-requires c =

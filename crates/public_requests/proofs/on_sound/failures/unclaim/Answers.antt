@@ -2,14 +2,14 @@
 use mathlib.Core.Path.{refl}
 use native.Mathlib.Omega.{arith}
 use Rattle.outcome.proofs.Exits.{hands-on}
-use Rattle.outcome.proofs.Carried.{refused, yes-no_done}
+use Rattle.outcome.proofs.Carried.{refused_by, yes-no_done}
 use Rattle.public_requests.proofs.Instances.{unclaims}
 use Rattle.outcome.proofs.Replies.{silent-answer}
 use Rattle.public_requests.proofs.on_sound.failures.unclaim.Goals as goal
 
 pub returns-in_err-of_connection : goal.returns-in_err-of_connection
 returns-in_err-of_connection c =
-    rw (hands-on _ c.from_residual.ensures.1) (refused (unclaims _ _).names c.requires _ c.in_err-of_connection.ensures.test)
+    rw (hands-on _ c.from_residual.ensures.1) (refused_by (unclaims _ _).names c.requires _ c.in_err-of_connection.ensures.test)
 
 pub returns : goal.returns
 returns c =

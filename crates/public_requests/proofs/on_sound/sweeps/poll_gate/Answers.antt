@@ -1,13 +1,13 @@
 -- `public_requests::on_sound::sweeps::poll_gate` meets its contract: an instance of crates/outcome/proofs/Carried.
 use native.Mathlib.Omega.{arith}
 use Rattle.outcome.proofs.Exits.{hands-on}
-use Rattle.outcome.proofs.Carried.{refused, answers_done}
+use Rattle.outcome.proofs.Carried.{refused_by, answers_done}
 use Rattle.public_requests.proofs.Instances.{gates}
 use Rattle.public_requests.proofs.on_sound.sweeps.poll_gate.Goals as goal
 
 pub returns-in_err-clock : goal.returns-in_err-clock
 returns-in_err-clock c =
-    rw (hands-on _ c.from_residual.ensures.1) (refused (gates _).names c.requires _ c.in_err-clock.ensures.test)
+    rw (hands-on _ c.from_residual.ensures.1) (refused_by (gates _).names c.requires _ c.in_err-clock.ensures.test)
 
 pub returns : goal.returns
 returns c =
