@@ -1,11 +1,12 @@
 -- A scan of rows for the time at which one is ready, and what the rows of a key say of it.
-use Prim.Native.Nat.{ℕ, ◌+◌, ◌-◌, ◌≤◌, ◌<◌}
+use Prim.Native.Nat.{ℕ, zero, suc, ◌+◌, ◌-◌, ◌≤◌, ◌<◌}
 use mathlib.Core.Path.{◌≡◌, refl, ap, ◌∙◌}
-use mathlib.Core.Bool.{Bool, true, false, ◌||◌}
+use mathlib.Core.Bool.{Bool, true, false, or-true}
 use mathlib.Core.List.{List, [], ◌∷◌, map}
-use mathlib.Core.Option.{Option}
+use mathlib.Core.Option.{Option, none, some}
 use native.Mathlib.Omega.{arith}
 use lib.Dec.{leb}
+use borrow.Author.Tests.{lt-ltb, lt-leb, le-leb}
 use lib.ListN.{length, get_or}
 use Rattle.std.specs.Prelude as rust
 use Rattle.ident.specs.Number.{top, Key, place, txid, wtxid}
@@ -26,22 +27,37 @@ use Rattle.choosing.proofs.Keyed.{here, l, hash-owned, hash-free}
 
 -- ---- a scan from the last row to the first
 
--- what the rows rs have come to: whether one is ready, and the least of those that are later
-pub record Waits (now : ℕ) (rs : List Row) (any : Bool) (w : rust.Option ℕ) : Type 0 where
-  pub ready : any ≡ any_ready now (map candidate_at rs)
+-- none of the rows rs is ready, and w is the least of their times
+pub record Waits (now : ℕ) (rs : List Row) (w : rust.Option ℕ) : Type 0 where
+  pub waiting : any_ready now (map candidate_at rs) ≡ false
   pub least : option_of w ≡ least_later now (ready_times (map candidate_at rs))
 
-module _ (now : ℕ) (rs : List Row) (to : ℕ) where
-  pub waits_none : (i : ℕ) → to ≤ i → Waits now (part i to rs) false rust.None
-  unfolding any_ready least_later
-  waits_none i h = let z : to - i ≡ 0 = omega arith in rw z (record { ready = refl; least = refl })
+pub waits-told : (now : ℕ) (rs : List Row) (w : rust.Option ℕ) → Waits now rs w → option_of w ≡ wait_in now (map candidate_at rs)
+waits-told now rs w k = rw (k.waiting, k.least) refl
 
-  pub waits-row : {r : Row} (d : Row) {j : ℕ} (i : ℕ) → j ≡ i + 1 → i < to → to ≤ length rs → r ≡ get_or rs i d → {any : Bool} {w v : rust.Option ℕ} {o : Option ℕ}
-      → Waits now (part j to rs) any w → o ≡ later now r.ready → option_of v ≡ earlier o (option_of w) → Waits now (part i to rs) (leb r.ready now || any) v
+pub none_in : (now : ℕ) (rs : List Row) → any_ready now (map candidate_at rs) ≡ true → none ≡ wait_in now (map candidate_at rs)
+none_in now rs e = rw e refl
+
+module _ (now : ℕ) (rs : List Row) (to : ℕ) where
+  pub waits_none : (i : ℕ) → to ≤ i → Waits now (part i to rs) rust.None
+  unfolding any_ready least_later
+  waits_none i h = let z : to - i ≡ 0 = omega arith in rw z (record { waiting = refl; least = refl })
+
+  pub waits-row : {r : Row} (d : Row) {j : ℕ} (i : ℕ) → j ≡ i + 1 → i < to → to ≤ length rs → r ≡ get_or rs i d → now < r.ready → {w v : rust.Option ℕ}
+      → Waits now (part j to rs) w → option_of v ≡ earlier (some r.ready) (option_of w) → Waits now (part i to rs) v
   unfolding any_ready least_later candidate_at
-  waits-row {r} d i e m h f {any} k q g =
+  waits-row {r} d i e m h f late k g =
       rw (part_more rs i to d m h, ← f, ← e)
-      (record { ready = ap (λ (b : Bool). leb r.ready now || b) k.ready; least = g ∙ rw (q, k.least) refl })
+      (record { waiting = rw (lt-leb r.ready now late) k.waiting; least = g ∙ rw (k.least, lt-ltb now r.ready late) refl })
+
+  -- a row that is ready, k rows behind the a-th
+  pub ready_row : {r : Row} (d : Row) (i : ℕ) → i < to → to ≤ length rs → r ≡ get_or rs i d → r.ready ≤ now → (k a : ℕ) → a + k ≡ i → any_ready now (map candidate_at (part a to rs)) ≡ true
+  unfolding any_ready candidate_at
+  ready_row {r} d i m h f e zero a q = 
+      let q' : a ≡ i = omega (arith, q) in
+      rw (part_more rs a to d (omega (arith, q, m)) h, q', ← f, le-leb r.ready now e) refl
+  ready_row {r} d i m h f e (suc k) a q =
+      rw (part_more rs a to d (omega (arith, q, m)) h, ready_row d i m h f e k (a + 1) (omega (arith, q))) (or-true (leb (get_or rs a d).ready now))
 
 -- ---- the rows of a key
 

@@ -26,17 +26,18 @@ pub fn later(clock: u64, t: u64) -> Option<u64>
     (clock < t).then_some(t)
 }
 
-// The earliest ready time among the rows of x, where none of them is ready. (`any` is whether one is, and then no time is told: a fold, for one pass.)
+// The earliest ready time among the rows of x, where none of them is ready.
 pub fn wait_in(s: &[u8], clock: u64, x: requests::Window) -> Option<u64>
     requires { Shown s.now × (x.to ≤ rows_in s.now) }
     ensures { (f : Flat) → Shows s.now f → option_of result ≡ wait_in clock (map candidate_at (part x.from x.to f.rows)) }
 {
     let mut w = None;
-    let mut any = false;
     for i in (x.from..x.to).rev() {
         let r = store::rows::row_at(s, i);
-        any = (r.ready <= clock) | any;
-        w = earlier(later(clock, r.ready), w);
+        if r.ready <= clock {
+            return None;
+        }
+        w = earlier(Some(r.ready), w);
     }
-    if any { None } else { w }
+    w
 }
