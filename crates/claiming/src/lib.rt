@@ -36,35 +36,37 @@ fn item_kind(r: regions::Row) -> ident::ItemKind
     }
 }
 
-// The entry of a row's candidate. (A `From` would be no shorter: it has two callers, and the clause says it by name.)
-pub fn entry_of(r: regions::Row) -> Entry
-    ensures { entry_of result ≡ entry_at r }
-{
-    let key = announcing::evict::key_of(r);
-    Entry {
-        key,
-        candidate: requests::Candidate {
-            connection: r.conn,
-            item: ident::Item {
-                kind: item_kind(r),
-                hash: key.hash,
+// What a row says of its request and its candidate.
+impl From<regions::Row> for Entry {
+    ghost from_gives = { λ r e. entry_of e ≡ entry_at r };
+
+    fn from(r: regions::Row) -> Entry {
+        let key = ident::Key::from(regions::Key::from(r));
+        Entry {
+            key,
+            candidate: requests::Candidate {
+                connection: r.conn,
+                item: ident::Item {
+                    kind: item_kind(r),
+                    hash: key.hash,
+                },
+                ready: r.ready,
+                preferred: r.is_preferred(),
+                priority: r.prio,
             },
-            ready: r.ready,
-            preferred: r.is_preferred(),
-            priority: r.prio,
-        },
+        }
     }
 }
 
 // ---- one entry
 
-// Whether the entry is what a plan would choose for its hash, which nobody owns.
+// Whether the entry is what a plan would choose for its hash, which nobody owns. (Tried as `is_some_and`: the closure then wants a clause of what it compares, longer than this.)
 fn takes(s: &[u8], clock: u64, e: Entry) -> bool
     requires { Kept s.now }
     ensures { Tells s.now (λ t. result ≡ machine.takes clock (entry_of e) t) }
 {
     match choosing::choose_free(s, clock, e.key.hash).pick {
-        Some(p) => e == entry_of(p.row),
+        Some(p) => e == Entry::from(p.row),
         None => false,
     }
 }

@@ -24,6 +24,6 @@ pub fn put_entries(s: &[u8], numbers: &[usize], out: &mut [u8])
 {
     for j in 0..numbers.len() {
         let r = store::rows::row_at(s, numbers[j]);
-        claiming::entries::put_entry(out, j, claiming::entry_of(r));
+        claiming::entries::put_entry(out, j, claiming::Entry::from(r));
     }
 }

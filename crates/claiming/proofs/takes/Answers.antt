@@ -11,10 +11,10 @@ use Rattle.claiming.proofs.takes.Goals as goal
 pub returns-in-Some : goal.returns-in-Some
 returns-in-Some c = λ st s w.
     let e = c.args.e in
-    let x = c.entry_of.result in
+    let x = c.from.result in
     let f = c.well_formed.1.1.0 in
-    let g = c.entry_of.type_inv in
-    same_taken c.args.clock (entry_of e) st.table (c.choose_free.ensures.is st s w) (ap picked c.in-Some.is ∙ ap some (sym c.entry_of.ensures))
+    let g = c.from.type_inv in
+    same_taken c.args.clock (entry_of e) st.table (c.choose_free.ensures.is st s w) (ap picked c.in-Some.is ∙ ap some (sym c.from.ensures))
     (c.eq.ensures ∙ same_fields e x (key_fours e f) (key_fours x g) (item_fours e f) (item_fours x g))
 
 pub returns-in-None : goal.returns-in-None

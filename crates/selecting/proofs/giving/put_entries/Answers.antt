@@ -22,9 +22,9 @@ loop-j-preserved c = (
       puts_more f.rows l c.args.numbers.now
       c.args.out.now
       (length c.args.numbers.now) c.loop-j.j
-      (entry_of c.entry_of.result) c.row_at-r.result q
+      (entry_of c.from.result) c.row_at-r.result q
       c.loop-j-test.true g (c.row_at-r.ensures f
-      c.row_at-r.result w) c.entry_of.ensures
+      c.row_at-r.result w) c.from.ensures
       (c.loop-j.invariant.2 f l w q g) c.put_entry.ensures
       c.requires.2,
 )
