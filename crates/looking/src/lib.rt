@@ -28,36 +28,38 @@ pub struct Look {
     pub rest: Option<u64>,
 }
 
-// No row yet of the key at hand; rest: the next look at the keys behind it. (`due` and `free` are of the key at hand: here it begins.)
-fn before_rows(rest: Option<u64>) -> Look
-    ensures { (clock : ℕ) (t : Table) → option_of rest ≡ next_look clock t → Looks clock none [] t result }
-{
-    Look {
-        due: None,
-        free: None,
-        rest,
+impl Look {
+    // No row yet of the key at hand; rest: the next look at the keys behind it. (`due` and `free` are of the key at hand: here it begins.)
+    fn before_rows(rest: Option<u64>) -> Look
+        ensures { (clock : ℕ) (t : Table) → option_of rest ≡ next_look clock t → Looks clock none [] t result }
+    {
+        Look {
+            due: None,
+            free: None,
+            rest,
+        }
     }
-}
 
-// The next look at the key at hand and those behind it.
-fn settled(v: Look, clock: u64) -> Option<u64>
-    ensures { (t : Table) → LooksAt clock t v → option_of result ≡ next_look clock t }
-{
-    match v.due {
-        Some(due) => earlier(later(clock, due), v.rest),
-        None => earlier(v.free, v.rest),
+    // The next look at the key at hand and those behind it.
+    fn settled(self, clock: u64) -> Option<u64>
+        ensures { (t : Table) → LooksAt clock t self → option_of result ≡ next_look clock t }
+    {
+        match self.due {
+            Some(due) => earlier(later(clock, due), self.rest),
+            None => earlier(self.free, self.rest),
+        }
     }
-}
 
-// One row more of the key at hand.
-fn with_row(v: Look, clock: u64, r: regions::Row) -> Look
-    ensures { (o : Option Owner) (cs : List Candidate) (t : Table) → Looks clock o cs t v → Looks clock (owner_at r o) (candidate_at r ∷ cs) t result }
-{
-    let owns = r.owns();
-    Look {
-        due: if owns { Some(r.deadline) } else { v.due },
-        free: earlier(later(clock, r.ready), v.free),
-        rest: v.rest,
+    // One row more of the key at hand.
+    fn with_row(self, clock: u64, r: regions::Row) -> Look
+        ensures { (o : Option Owner) (cs : List Candidate) (t : Table) → Looks clock o cs t self → Looks clock (owner_at r o) (candidate_at r ∷ cs) t result }
+    {
+        let owns = r.owns();
+        Look {
+            due: if owns { Some(r.deadline) } else { self.due },
+            free: earlier(later(clock, r.ready), self.free),
+            ..self
+        }
     }
 }
 
@@ -68,11 +70,11 @@ fn turn(s: &[u8], v: Look, clock: u64, i: usize, n: usize) -> Look
 {
     let r = store::rows::row_at(s, i);
     let key = if sweeping::batch::ends_key(s, r, i + 1, n) {
-        before_rows(settled(v, clock))
+        Look::before_rows(v.settled(clock))
     } else {
         v
     };
-    with_row(key, clock, r)
+    key.with_row(clock, r)
 }
 
 // The least time later than the clock among the ready times of unowned keys and the deadlines of owned ones.
@@ -81,9 +83,9 @@ pub fn next_look(s: &[u8], clock: u64) -> Option<u64>
     ensures { Tells s.now (λ t. option_of result ≡ next_look clock t) }
 {
     let n = store::head::rows(s);
-    let mut v = before_rows(None);
+    let mut v = Look::before_rows(None);
     for i in (0..n).rev() {
         v = turn(s, v, clock, i, n);
     }
-    settled(v, clock)
+    v.settled(clock)
 }

@@ -1,5 +1,5 @@
 -- `looking::next_look` meets its contract.
-use Prim.Native.Nat.{ℕ, ◌-◌}
+use Prim.Native.Nat.{ℕ}
 use native.Mathlib.Omega.{arith}
 use Rattle.store.specs.Flat.{flat_of, rows_of}
 use Rattle.store.specs.Gather.{gather}
