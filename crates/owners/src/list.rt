@@ -10,7 +10,7 @@ use machine::limits::MAX_ASKED_HASHES;
 // Bytes of an owner in an answer buffer.
 const OWNER_BYTES: usize = 8 * super::OWNER;
 
-// Whether the i-th hash is above the one before it.
+// Whether the i-th hash is above the one before it. (By `quad_less`, whose clause is of the numbers: for `<` of two hashes their order would be unfolded here.)
 fn above_last(hashes: &[u8], i: usize) -> bool
     requires { (1 ≤ i) × (i < length (hashes_in hashes.now)) }
     ensures { result ≡ above_last (hashes_in hashes.now) i }

@@ -55,6 +55,7 @@ fn look_up(list: &[u8], known: Known, connection: u64) -> Known
     }
 }
 
+// (The derived test, which by this clause is that of the definition.)
 fn is_transaction(k: ident::ItemKind) -> bool
     ensures { result ≡ is_transaction k }
 {
