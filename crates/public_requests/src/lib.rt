@@ -56,7 +56,7 @@ pub fn sum(s: &[u8]) -> Result<Figures, Refusal>
 }
 
 // The figures of n held of L, m of which can be evicted.
-fn figures_of(n: u64, l: u64, m: u64) -> Figures
+fn figures(n: u64, l: u64, m: u64) -> Figures
     requires { (1 ≤ l) × (l ≤ limits.max_announcements) × (n ≤ l) × (m ≤ n) }
     ensures { result ≡ record { held = n; free = l - n; free_preferred = l - n + m; permille = n * 1000 / l } }
 {

@@ -4,13 +4,13 @@
 // store. What they leave of a sound store is sound (crates/outcome/proofs/Owned, `does-keeps-sound`), so that an owner never tests again.
 //
 // A call of document 01 is a function of its own, with the call's own arguments and the call in its contract, also where two have one shape (announce and
-// request_parent; failed and failed_package_info). What all share stands once: the tests, the need, the reply (crates/outcome).
+// request_parent; failed and failed_package_info; claim_package and begin_package_resolution). What all share stands once: the tests, the need, the reply (crates/outcome).
 ghost use Rattle.machine.specs.Call.{On, Sum};
 ghost use Rattle.store.specs.Image.{SoundStore};
 ghost use Rattle.outcome.specs.Outcome.{Leaves};
 ghost use Rattle.outcome.specs.Reply.{figures_of};
 
-use crate::figures_of;
+use crate::figures;
 use outcome::{Figures, Refusal, refusals};
 
 pub mod candidates;
@@ -26,5 +26,5 @@ pub fn sum(s: &[u8]) -> Result<Figures, Refusal>
     let n = store::head::rows(s) as u64;
     let e = refusals::need_of(s);
     let m = announcing::evict::evictable(&s[..e]);
-    Ok(figures_of(n, l, m))
+    Ok(figures(n, l, m))
 }

@@ -10,8 +10,8 @@ limit-l-requires c = head-inside c.args.s.now c.requires
 pub rows-n-requires : goal.rows-n-requires
 rows-n-requires c = head-inside c.args.s.now c.requires
 
-pub figures_of-requires : goal.figures_of-requires
-figures_of-requires c =
+pub figures-requires : goal.figures-requires
+figures-requires c =
     figures-fit c.args.s.now c.requires c.rows-n.result c.limit-l.result c.evictable-m.result
     c.rows-n.ensures.word c.limit-l.ensures.word c.need_of-e.ensures c.evictable-m.ensures
 
@@ -19,4 +19,4 @@ pub returns : goal.returns
 returns c =
     sum-figures c.args.s.now c.requires c.rows-n.result c.limit-l.result c.evictable-m.result
     (λ i. omega (arith, c.type_inv.s i)) c.rows-n.ensures.word
-    c.limit-l.ensures.word c.need_of-e.ensures c.evictable-m.ensures c.figures_of.ensures
+    c.limit-l.ensures.word c.need_of-e.ensures c.evictable-m.ensures c.figures.ensures
