@@ -1,9 +1,9 @@
--- `regions::write` meets its contract.
+-- `regions::kinds::write` meets its contract.
 use native.Mathlib.Omega.{arith}
 use Rattle.words.specs.Words.{words}
 use Rattle.words.proofs.Words.{length-words}
 use Rattle.regions.proofs.Records.{write_replaced}
-use Rattle.regions.proofs.write.Goals as goal
+use Rattle.regions.proofs.kinds.write.Goals as goal
 
 pub returns : goal.returns
 returns g c =

@@ -1,9 +1,9 @@
--- `regions::truncate` meets its contract.
+-- `regions::kinds::truncate` meets its contract.
 use native.Mathlib.Omega.{arith}
 use Rattle.words.specs.Words.{words}
 use Rattle.words.proofs.Words.{length-words}
 use Rattle.regions.proofs.Regions.{truncated}
-use Rattle.regions.proofs.truncate.Goals as goal
+use Rattle.regions.proofs.kinds.truncate.Goals as goal
 
 pub returns : goal.returns
 returns g c =

@@ -1,6 +1,6 @@
--- `regions::remove` meets its contract.
+-- `regions::kinds::remove` meets its contract.
 use Rattle.regions.proofs.Records.{moved_down}
-use Rattle.regions.proofs.remove.Goals as goal
+use Rattle.regions.proofs.kinds.remove.Goals as goal
 
 pub returns : goal.returns
 returns g c =

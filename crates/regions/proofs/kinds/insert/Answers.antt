@@ -1,10 +1,10 @@
--- `regions::insert` meets its contract.
+-- `regions::kinds::insert` meets its contract.
 use native.Mathlib.Omega.{arith}
 use Rattle.words.specs.Words.{words}
 use Rattle.words.proofs.Words.{length-words}
 use Rattle.regions.proofs.Records.{moved_up}
 use Rattle.regions.proofs.Regions.{inserted_at}
-use Rattle.regions.proofs.insert.Goals as goal
+use Rattle.regions.proofs.kinds.insert.Goals as goal
 
 pub returns : goal.returns
 returns g c =

@@ -1,9 +1,9 @@
--- `regions::copy` meets its contract.
+-- `regions::kinds::copy` meets its contract.
 use native.Mathlib.Omega.{arith}
 use Rattle.words.specs.Words.{words}
 use Rattle.words.proofs.Words.{length-words}
 use Rattle.regions.proofs.Regions.{copied}
-use Rattle.regions.proofs.copy.Goals as goal
+use Rattle.regions.proofs.kinds.copy.Goals as goal
 
 pub returns : goal.returns
 returns g c =

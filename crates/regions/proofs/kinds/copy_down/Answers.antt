@@ -4,7 +4,7 @@ use Rattle.words.specs.Words.{words}
 use Rattle.words.proofs.Words.{length-words}
 use Rattle.words.proofs.Parts.{back_down}
 use Rattle.regions.proofs.Gap.{copied_by}
-use Rattle.regions.proofs.copy_down.Goals as goal
+use Rattle.regions.proofs.kinds.copy_down.Goals as goal
 
 pub returns : goal.returns
 returns c =

@@ -1,9 +1,9 @@
--- `regions::read` meets its contract.
+-- `regions::kinds::read` meets its contract.
 use native.Mathlib.Omega.{arith}
 use Rattle.words.specs.Words.{words}
 use Rattle.words.proofs.Words.{length-words}
 use Rattle.regions.proofs.Records.{read_found}
-use Rattle.regions.proofs.read.Goals as goal
+use Rattle.regions.proofs.kinds.read.Goals as goal
 
 pub returns : goal.returns
 returns g c =

@@ -1,5 +1,5 @@
 use Rattle.words.proofs.Parts.{back_up}
-use Rattle.regions.proofs.move_up.Goals as goal
+use Rattle.regions.proofs.kinds.move_up.Goals as goal
 
 pub returns : goal.returns
 returns c =
