@@ -8,5 +8,6 @@ pub mod Records
 pub mod Less
 pub mod Retaining
 pub mod Hashes
+pub mod Numbered
 pub mod Bits
 pub mod Equal

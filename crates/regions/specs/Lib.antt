@@ -4,3 +4,5 @@ pub mod Rows
 pub mod Kinds
 pub mod Staying
 pub mod Keys
+pub mod Packed
+pub mod Numbered

@@ -8,13 +8,15 @@
 // where it looks for one.
 #![tactic(auto)]
 
-ghost use Rattle.std.specs.Prelude.{◌≡◌, ℕ, ◌+◌, ◌*◌, ◌≤◌, ◌<◌, length, get_or, take, drop, ltb};
+ghost use Rattle.std.specs.Prelude.{◌≡◌, ℕ, ◌+◌, ◌*◌, ◌≤◌, ◌<◌, length, get_or, take, drop, ltb, min};
 ghost use Rattle.words.specs.Words.{words, recs, splice};
 ghost use Rattle.regions.specs.declared.Row.{Row};
 ghost use Rattle.regions.specs.declared.Conn.{Conn};
+ghost use Rattle.ident.specs.Number.{top};
 ghost use Rattle.ident.specs.Words.{hash_num};
 ghost use Rattle.regions.specs.Keys.{Words, KeyWords};
 ghost use Rattle.regions.specs.Kinds.{row_kind, row_whole, conn_kind, conn_whole};
+ghost use Rattle.regions.specs.Numbered.{numbered, start_numbered};
 ghost use Rattle.regions.specs.Order.{Sought, IsLowerBound, First};
 ghost use Rattle.regions.specs.Rows.{row_size, conn_size, quad_words, read_quad, quad_number, row_words, read_row};
 ghost use Rattle.regions.specs.Rows.{key_number, start_number, key_of, row_key, row_conn, conn_words, read_conn, conn_key};
@@ -31,6 +33,7 @@ mod row_bits; // row_bits.rt: a row's key, and what its bits say
 pub use kinds::{
     Record, WholeRecord, copy, copy_down, insert, move_up, read, remove, truncate, write,
 };
+pub use row_bits::RowBits;
 
 // Words of a row, and where behind its hash they stand.
 pub const ROW: usize = 9;
@@ -74,6 +77,17 @@ pub struct Key {
     pub kind: ident::Kind,
     pub hash: Quad,
 }
+
+// Where no row begins: behind the greatest key.
+const BEHIND_ALL: Bound<Key> = Bound::Excluded(Key {
+    kind: ident::Kind::Wtxid,
+    hash: Quad {
+        w3: u64::MAX,
+        w2: u64::MAX,
+        w1: u64::MAX,
+        w0: u64::MAX,
+    },
+});
 
 // A candidate of a request. The deadline is 0 unless it owns the request; bits, packed as the bytes of a store are: 1 Wtxid kind, 2 item is v, 4 preferred, 8 owns, 16 mark.
 // (`row_bits` says what each stands for; its methods divide, as the specs do.)
@@ -264,6 +278,29 @@ pub fn falls_short(m: Key, start: Bound<Key>) -> bool
         Bound::Included(k) => key_less(m, k),
         Bound::Excluded(k) => !key_less(k, m),
         Bound::Unbounded => false,
+    }
+}
+
+// The key of a kind's number and a hash.
+fn key_with(kind: u64, hash: Quad) -> Key
+    requires { kind < 2 }
+    ensures { (key_number result ≡ numbered kind hash) × (numbered kind hash < 2 * top) }
+{
+    Key {
+        kind: ident::Kind::from(kind),
+        hash,
+    }
+}
+
+// Where rows begin by any number for a kind. No row has another than 0 or 1: all come before a greater one.
+pub fn start_at(start: Bound<(u64, Quad)>) -> Bound<Key>
+    ensures { start_number result ≡ min (start_numbered start) (2 * top) }
+{
+    match start {
+        Bound::Included((kind, hash)) if kind < 2 => Bound::Included(key_with(kind, hash)),
+        Bound::Excluded((kind, hash)) if kind < 2 => Bound::Excluded(key_with(kind, hash)),
+        Bound::Included(_) | Bound::Excluded(_) => BEHIND_ALL,
+        Bound::Unbounded => Bound::Unbounded,
     }
 }
 
