@@ -20,7 +20,7 @@ use Rattle.words.proofs.Records.{length-recs, recs_at}
 use Rattle.regions.specs.declared.Quad.{Quad}
 use Rattle.regions.specs.declared.Key.{Key}
 use Rattle.regions.specs.Numbered.{numbered}
-use Rattle.regions.specs.Order.{Bound, Sought}
+use Rattle.regions.specs.Order.{Sought}
 use Rattle.regions.specs.Rows.{quad_words, quad_number, key_number, row_size, row_key, read_row, key_of}
 use Rattle.regions.proofs.Order.{Small, test}
 

@@ -1,23 +1,26 @@
 -- A candidate that adopts what another brings, in the records and in bytes.
-use Prim.Native.Nat.{ℕ, suc, min, ◌+◌, ◌*◌, ◌/◌, ◌%◌, ◌<◌}
+use Prim.Native.Nat.{ℕ, suc, min, ◌/◌, ◌%◌, ◌<◌}
 use mathlib.Core.Path.{◌≡◌, refl, sym, ap, ◌∙◌}
 use mathlib.Core.Bool.{Bool, true, false}
 use mathlib.Core.List.{List, []}
 use native.Mathlib.Omega.{arith}
+use lib.Dec.{eqb}
 use lib.ListN.{length, take, drop, get_or, set}
 use lib.Seq.{set_split}
-use Rattle.ident.specs.Number.{Key, kind_number}
+use Rattle.ident.specs.declared.Kind.{Kind}
+use Rattle.ident.specs.Number.{Key, kind_is}
+use Rattle.ident.proofs.KindNumbers.{kind_back}
 use Rattle.regions.specs.declared.Row.{Row}
 use Rattle.machine.specs.State.{Candidate, Request, State, on_table, with_candidates, adopting, owner_is}
-use Rattle.machine.specs.Table.{at, one}
+use Rattle.machine.specs.Table.{at}
 use Rattle.machine.specs.Announce.{adopt, adopted}
 use Rattle.machine.specs.Sound.{Sound}
 use Rattle.machine.proofs.Table.{lawful_at}
 use Rattle.machine.proofs.Alone.{adopt-empty as adopt-some}
-use Rattle.store.specs.Flat.{flat_of, deadline_for, own_bit, row_of, rows_of, places_for, tally}
+use Rattle.store.specs.Flat.{flat_of, witness_bit, bits_of, deadline_for, own_bit, row_of, rows_of, places_for, tally}
 use Rattle.store.specs.Image.{Shows, Writes}
 use Rattle.store.specs.Shown.{with_rows}
-use Rattle.store.proofs.Bits.{bits-kind, bits-witness, bits-own, bits-mark, own_row}
+use Rattle.store.proofs.Bits.{bits-kind, bits-witness, bit_one, own_row, owns-row, mark-row}
 use Rattle.store.proofs.PlacesAt.{places-unchanged}
 use Rattle.store.proofs.RowChanges.{rows-adopted}
 use Rattle.store.proofs.RowsAt.{Among, ahead, split_at, places_with}
@@ -29,38 +32,37 @@ use Rattle.requests.proofs.Cutting.{row_there, ahead_less}
 
 -- ---- one row
 
-bits_as : (n v w p : ℕ) {a b : ℕ} (h : Row) → a ≡ b → ◌≡◌ {A = Row} (record { hash = h.hash; conn = n; ready = v; prio = w; deadline = p; bits = a })
+row_as : (n v w p : ℕ) {a b : ℕ} (h : Row) → a ≡ b → ◌≡◌ {A = Row} (record { hash = h.hash; conn = n; ready = v; prio = w; deadline = p; bits = a })
     (record { hash = h.hash; conn = n; ready = v; prio = w; deadline = p; bits = b })
-bits_as n v w p h e = cc
+row_as n v w p h e = cc
 
 module _ (q : Request) (c d : Candidate) where
-  abbrev bits : ℕ
-  bits = (row_of q d).bits
+  -- what the row of d says, where the item is v
+  module _ {k : Kind} {o m : Bool} (ek : k ≡ kind_is ((row_of q d).bits % 2)) (eo : o ≡ eqb ((row_of q d).bits / 8 % 2) 1) (em : m ≡ eqb ((row_of q d).bits / 16 % 2) 1) where
+    adopted-bits : {n : ℕ} (v : ℕ) → n ≡ bits_of k v true o m → n ≡ bits_of q.key.kind v true (owner_is d.connection q.owner) q.fallback
+    unfolding row_of
+    adopted-bits v e =
+        let b = bits-kind q.key.kind d.item.kind d.preferred (owner_is d.connection q.owner) q.fallback in
+        let x : k ≡ q.key.kind = ek ∙ ap kind_is b ∙ kind_back q.key.kind in
+        let y : o ≡ owner_is d.connection q.owner = eo ∙ owns-row q d in
+        let z : m ≡ q.fallback = em ∙ ap (λ (a : ℕ). eqb a 1) (mark-row q d) ∙ bit_one q.fallback in
+        rw (e, x, y, z) refl
 
-  adopted-bits : (w : ℕ) → bits % 2 + 2 * w + 4 + 8 * (bits / 8 % 2) + 16 * (bits / 16 % 2) ≡
-      kind_number q.key.kind + 2 * w + 4 * 1 + 8 * one (owner_is d.connection q.owner) + 16 * one q.fallback
-  unfolding row_of
-  adopted-bits w =
-      let k = bits-kind q.key.kind d.item.kind d.preferred (owner_is d.connection q.owner) q.fallback in
-      let o = bits-own q.key.kind d.item.kind d.preferred (owner_is d.connection q.owner) q.fallback in
-      let m = bits-mark q.key.kind d.item.kind d.preferred (owner_is d.connection q.owner) q.fallback in
-      rw (k, o, m)
-
-  -- by the item that it takes
-  pub adopted-row : (same : Bool) {w : ℕ} → w ≡ witness_as same c.item.kind bits
-      → ◌≡◌ {A = Row} (record {
-        hash = (row_of q d).hash;
-        conn = (row_of q d).conn;
-        ready = min (row_of q d).ready c.ready;
-        prio = min (row_of q d).prio c.priority;
-        deadline = (row_of q d).deadline;
-        bits = bits % 2 + 2 * w + 4 + 8 * (bits / 8 % 2) + 16 * (bits / 16 % 2);
-      }) (row_of q (adopting same c d))
-  unfolding row_of
-  adopted-row true {w} e = bits_as d.connection (min d.ready c.ready) (min d.priority c.priority) (deadline_for d.connection q.owner) (row_of q d) (adopted-bits w ∙ rw e)
-  adopted-row false {w} e =
-      let v = bits-witness q.key.kind d.item.kind d.preferred (owner_is d.connection q.owner) q.fallback in
-      bits_as d.connection (min d.ready c.ready) (min d.priority c.priority) (deadline_for d.connection q.owner) (row_of q d) (adopted-bits w ∙ rw (e ∙ v))
+    -- by the item that it takes
+    pub adopted-row : (same : Bool) {n : ℕ} → n ≡ bits_of k (witness_as same c.item.kind (row_of q d).bits) true o m
+        → ◌≡◌ {A = Row} (record {
+          hash = (row_of q d).hash;
+          conn = (row_of q d).conn;
+          ready = min (row_of q d).ready c.ready;
+          prio = min (row_of q d).prio c.priority;
+          deadline = (row_of q d).deadline;
+          bits = n;
+        }) (row_of q (adopting same c d))
+    unfolding row_of
+    adopted-row true e = row_as d.connection (min d.ready c.ready) (min d.priority c.priority) (deadline_for d.connection q.owner) (row_of q d) (adopted-bits (witness_bit c.item.kind) e)
+    adopted-row false e =
+        let v = bits-witness q.key.kind d.item.kind d.preferred (owner_is d.connection q.owner) q.fallback in
+        row_as d.connection (min d.ready c.ready) (min d.priority c.priority) (deadline_for d.connection q.owner) (row_of q d) (adopted-bits ((row_of q d).bits / 2 % 2) e ∙ rw v refl)
 
 -- ---- the request
 

@@ -1,7 +1,7 @@
 -- One candidate more, in the records and in bytes.
-use Prim.Native.Nat.{ℕ, ◌+◌, ◌*◌, ◌%◌, ◌≤◌, ◌<◌}
+use Prim.Native.Nat.{ℕ, ◌%◌, ◌≤◌, ◌<◌}
 use mathlib.Core.Path.{◌≡◌, refl, sym, ap, ◌∙◌}
-use mathlib.Core.Bool.{Bool, true, false}
+use mathlib.Core.Bool.{Bool, false}
 use mathlib.Core.Logic.{inl, inr}
 use mathlib.Core.List.{List, [], ◌∷◌, ◌++◌, map, append-nil}
 use native.Mathlib.Omega.{arith}
@@ -9,8 +9,8 @@ use lib.ListN.{length, length-append}
 use lib.Seq.{get_or_at}
 use lib.Dec.{eqb}
 use borrow.Author.Tests.{lt-ltb, le-ltb, eqb-true, eqb-false}
-use mir.Val.{bool_byte}
-use Rattle.ident.specs.Number.{top, Key, kind_number}
+use Rattle.ident.specs.declared.Kind.{Kind}
+use Rattle.ident.specs.Number.{top, Key}
 use Rattle.regions.specs.declared.Quad.{Quad}
 use Rattle.regions.specs.declared.Row.{Row}
 use Rattle.regions.specs.Rows.{quad_of}
@@ -21,7 +21,7 @@ use Rattle.machine.specs.Announce.{push}
 use Rattle.machine.specs.Sound.{Sound, Filled, All}
 use Rattle.machine.proofs.Table.{all_at, at_key}
 use Rattle.machine.proofs.Tests.{test}
-use Rattle.store.specs.Flat.{flat_of, witness_bit, own_bit, row_of, rows_of, rows_for, bump, tally}
+use Rattle.store.specs.Flat.{flat_of, witness_bit, bits_of, own_bit, row_of, rows_of, rows_for, bump, tally}
 use Rattle.store.specs.Image.{Shows, Writes}
 use Rattle.store.specs.Shown.{conns_in, limit_in, Shown, with_rows, with_conns}
 use Rattle.store.proofs.Bits.{own_row, mark-row, conn-row, bit_one}
@@ -39,17 +39,11 @@ row_as : {h h' : Quad} {d d' b b' : ℕ} (n r p : ℕ) → h ≡ h' → d ≡ d'
     (record { hash = h'; conn = n; ready = r; prio = p; deadline = d'; bits = b' })
 row_as n r p e f g = cc
 
-pub row_new : (q : Request) (c : Candidate) {h : Quad} {k w p m : ℕ} → h ≡ quad_of q.key.hash → k ≡ kind_number q.key.kind → w ≡ witness_bit c.item.kind → p ≡ one c.preferred
-    → owner_is c.connection q.owner ≡ false → m ≡ one q.fallback
-    → ◌≡◌ {A = Row} (record { hash = h; conn = c.connection; ready = c.ready; prio = c.priority; deadline = 0; bits = k + 2 * w + 4 * p + 16 * m }) (row_of q c)
+pub row_new : (q : Request) (c : Candidate) {h : Quad} {k : Kind} {m : Bool} {n : ℕ} → h ≡ quad_of q.key.hash → k ≡ q.key.kind → owner_is c.connection q.owner ≡ false → m ≡ q.fallback
+    → n ≡ bits_of k (witness_bit c.item.kind) c.preferred false m
+    → ◌≡◌ {A = Row} (record { hash = h; conn = c.connection; ready = c.ready; prio = c.priority; deadline = 0; bits = n }) (row_of q c)
 unfolding row_of
-row_new q c eh ek ew ep o em =
-    let z : one (owner_is c.connection q.owner) ≡ 0 = ap one o in
-    row_as c.connection c.ready c.priority eh (sym (idle c.connection q.owner o)) (omega arith)
-
-pub byte_one : (b : Bool) → bool_byte b ≡ one b
-byte_one true = refl
-byte_one false = refl
+row_new q c eh ek o em e = row_as c.connection c.ready c.priority eh (sym (idle c.connection q.owner o)) (rw (e, ek, o, em) refl)
 
 -- a key's request is under the key
 module _ (st : State) (s : Sound st) (k : Key) (small : k.hash < top) where

@@ -13,12 +13,13 @@ ghost use Rattle.machine.specs.State.{owner_is, owned_until, unowned, with_candi
 ghost use Rattle.machine.specs.Table.{at, change, has, held_at, is_candidate, one};
 ghost use Rattle.machine.specs.Announce as machine;
 ghost use Rattle.machine.specs.Fail as fail;
-ghost use Rattle.ident.specs.Number.{kind_number};
+ghost use Rattle.regions.specs.Packed.{bit};
 ghost use Rattle.store.specs.Flat.{witness_bit};
 ghost use Rattle.store.specs.Shown.{limit_in, rows_in, Kept, Shown};
 ghost use Rattle.store.specs.Stamps.{marked_row};
 ghost use Rattle.requests.specs.Changes.{candidate_of, Spans, FoundAmong, MarkIn, RowFor, witness_as, RowAdopting, OwnedBare, FiguresOf, Makes, Tells};
 
+use regions::RowBits;
 use std::ops::Bound;
 pub use store::rows::Window;
 
@@ -36,27 +37,31 @@ pub struct Candidate {
 
 // ---- keys and bits as rows have them
 
-fn witness_bit(k: ident::ItemKind) -> u64
-    ensures { (result ≡ witness_bit k) × (result ≤ 1) }
+// Whether an item of this kind is v.
+fn is_witness(k: ident::ItemKind) -> bool
+    ensures { bit result ≡ witness_bit k }
 {
-    u64::from(k == ident::ItemKind::WitnessTransaction)
+    k == ident::ItemKind::WitnessTransaction
 }
 
-// The row of a candidate that does not own its request. (Its bits as a sum, whose terms name them: a function of a kind and four truth values
-// in a row would leave a call to say by their order alone which is which. What changes one bit, below, speaks of that one's number.)
+// The row of a candidate that does not own its request.
 pub fn new_row(k: regions::Key, c: Candidate, mark: bool) -> regions::Row
     ensures { RowFor k c mark result }
 {
+    let bits = RowBits {
+        kind: k.kind,
+        witness: is_witness(c.item.kind),
+        preferred: c.preferred,
+        owns: false,
+        mark,
+    };
     regions::Row {
         hash: k.hash,
         conn: c.connection,
         ready: c.ready,
         prio: c.priority,
         deadline: 0,
-        bits: u64::from(k.kind)
-            + 2 * witness_bit(c.item.kind)
-            + 4 * u64::from(c.preferred)
-            + 16 * u64::from(mark),
+        bits: u64::from(bits),
     }
 }
 
@@ -176,29 +181,27 @@ pub fn cut(s: &mut [u8], k: ident::Key, n: u64)
 // ---- a candidate that adopts what another brings
 
 // (`same` is a fact of two kinds, here and below: one bit of the row goes by it, and no step.)
-fn witness_as(same: bool, k: ident::ItemKind, r: regions::Row) -> u64
-    ensures { (result ≡ witness_as same k r.bits) × (result ≤ 1) }
+fn adopts_witness(same: bool, k: ident::ItemKind, r: regions::Row) -> bool
+    ensures { bit result ≡ witness_as same k r.bits }
 {
-    if same {
-        witness_bit(k)
-    } else {
-        u64::from(r.is_witness())
-    }
+    if same { is_witness(k) } else { r.is_witness() }
 }
 
 // The smaller ready time and priority, preferred, and the item where the kind is the same.
 fn adopted_row(r: regions::Row, c: Candidate, same: bool) -> regions::Row
     ensures { RowAdopting same c r result }
 {
-    let w = witness_as(same, c.item.kind, r);
+    let bits = RowBits {
+        kind: r.kind(),
+        witness: adopts_witness(same, c.item.kind, r),
+        preferred: true,
+        owns: r.owns(),
+        mark: r.is_marked(),
+    };
     regions::Row {
         ready: r.ready.min(c.ready),
         prio: r.prio.min(c.priority),
-        bits: u64::from(r.kind())
-            + 2 * w
-            + 4
-            + 8 * u64::from(r.owns())
-            + 16 * u64::from(r.is_marked()),
+        bits: u64::from(bits),
         ..r
     }
 }

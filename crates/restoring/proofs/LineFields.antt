@@ -1,16 +1,12 @@
 -- What a line's fields say of a row and of a place.
-use Prim.Native.Nat.{ℕ, ◌+◌, ◌*◌, ◌/◌, ◌≤◌, ◌<◌}
+use Prim.Native.Nat.{ℕ, ◌*◌, ◌/◌, ◌≤◌, ◌<◌}
 use mathlib.Core.Path.{◌≡◌, refl, sym, ap, subst, ◌∙◌}
 use mathlib.Core.Bool.{Bool, true, false, ◌||◌}
 use native.Mathlib.Omega.{arith}
 use mathlib.Core.List.{List, [], ◌∷◌, ◌++◌, append-nil}
 use lib.ListN.{length, take}
 use lib.Seq.{length-take-le}
-use mir.Val.{bool_byte}
 use Rattle.ident.specs.Words.{hash_bytes}
-use Rattle.ident.specs.declared.ItemKind.{ItemKind}
-use Rattle.ident.specs.declared.ItemKind.TheVariants.{Transaction, WitnessTransaction, WTx, Other}
-use Rattle.ident.specs.contracts.ItemKindPartialEq.TheImpl.{eq-value as item_kind_eq}
 use Rattle.words.specs.Words.{number, recs}
 use Rattle.words.proofs.Records.{length-recs, recs-take}
 use Rattle.lent_lists.specs.Lists.{hashes_in}
@@ -19,12 +15,10 @@ use Rattle.regions.specs.declared.Row.{Row}
 use Rattle.places.specs.Places.{Place, PlaceShort, list_most}
 use Rattle.regions.specs.Rows.{quad_number}
 use Rattle.machine.specs.State.{Request, owner_is}
-use Rattle.machine.specs.Table.{one}
 use Rattle.machine.specs.Typed.{Each}
 use Rattle.std.specs.Prelude.{Option as Maybe, Some, None, MatchOption, is_some}
 use Rattle.machine.proofs.Tests.{never}
-use Rattle.ident.specs.Number.{kind_number}
-use Rattle.store.specs.Flat.{witness_bit, deadline_for, row_of, place_for, places_for}
+use Rattle.store.specs.Flat.{witness_bit, bits_of, deadline_for, row_of, place_for, places_for}
 use Rattle.store.specs.FlatSound.{QuadFits}
 use Rattle.store.specs.Image.{Shows}
 use Rattle.store.specs.Shown.{places_in, held_places_in, with_places, Turns}
@@ -67,24 +61,14 @@ module _ (p : Maybe parts-package.Package) where
 
 -- ---- the row of a candidate
 
-pub one_byte : (b : Bool) → bool_byte b ≡ one b
-one_byte true = refl
-one_byte false = refl
-
-pub witness_byte : (k : ItemKind) → bool_byte (item_kind_eq.it k WitnessTransaction) ≡ witness_bit k
-witness_byte Transaction = refl
-witness_byte WitnessTransaction = refl
-witness_byte WTx = refl
-witness_byte (Other n) = refl
-
-pub row_made : (r : line-request.Request) (c : line-candidate.Candidate) → QuadFits r.key.hash → {k w p o m d : ℕ} → k ≡ kind_number r.key.kind → w ≡ witness_bit c.kind → p ≡ one c.preferred
-    → o ≡ one (owner_is c.connection (owner_of r.owner)) → m ≡ one r.mark → d ≡ deadline_for c.connection (owner_of r.owner)
-    → ◌≡◌ {A = Row} (record { hash = r.key.hash; conn = c.connection; ready = c.ready; prio = c.priority; deadline = d; bits = k + 2 * w + 4 * p + 8 * o + 16 * m })
-    (row_of (request_in [] [] r) (candidate_in c))
+pub row_made : (r : line-request.Request) (c : line-candidate.Candidate) → QuadFits r.key.hash → {o : Bool} {n d : ℕ} → o ≡ owner_is c.connection (owner_of r.owner) → d ≡ deadline_for c.connection (owner_of r.owner)
+    → n ≡ bits_of r.key.kind (witness_bit c.kind) c.preferred o r.mark
+    → ◌≡◌ {A = Row} (record { hash = r.key.hash; conn = c.connection; ready = c.ready; prio = c.priority; deadline = d; bits = n }) (row_of (request_in [] [] r) (candidate_in c))
 unfolding row_of
-row_made r c f ek ew ep eo em ed =
+row_made r c f eo ed e =
     let h = sym (quad-number r.key.hash f) in
-    (λ i. record { hash = h i; conn = c.connection; ready = c.ready; prio = c.priority; deadline = ed i; bits = ek i + 2 * ew i + 4 * ep i + 8 * eo i + 16 * em i })
+    let b = e ∙ ap (λ (x : Bool). bits_of r.key.kind (witness_bit c.kind) c.preferred x r.mark) eo in
+    (λ i. record { hash = h i; conn = c.connection; ready = c.ready; prio = c.priority; deadline = ed i; bits = b i })
 
 -- ---- the place of a request
 

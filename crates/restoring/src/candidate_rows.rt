@@ -7,6 +7,7 @@ ghost use Rattle.listed_lines.specs.Given.{owner_of, request_in, candidate_in};
 
 use listed_lines::line::{Candidate, Request};
 use listed_lines::parts::Owner;
+use regions::RowBits;
 
 // Whether the connection n is asked.
 fn is_owner(o: Option<Owner>, n: u64) -> bool
@@ -27,18 +28,20 @@ fn deadline_for(o: Option<Owner>, n: u64) -> u64
 fn row_of(r: Request, c: Candidate) -> regions::Row
     ensures { result ≡ row_of (request_in [] [] r) (candidate_in c) }
 {
-    let kind = u64::from(r.key.kind);
-    let witness = u64::from(c.kind == ident::ItemKind::WitnessTransaction);
-    let preferred = u64::from(c.preferred);
-    let owns = u64::from(is_owner(r.owner, c.connection));
-    let mark = u64::from(r.mark);
+    let bits = RowBits {
+        kind: r.key.kind,
+        witness: c.kind == ident::ItemKind::WitnessTransaction,
+        preferred: c.preferred,
+        owns: is_owner(r.owner, c.connection),
+        mark: r.mark,
+    };
     regions::Row {
         hash: r.key.hash,
         conn: c.connection,
         ready: c.ready,
         prio: c.priority,
         deadline: deadline_for(r.owner, c.connection),
-        bits: kind + 2 * witness + 4 * preferred + 8 * owns + 16 * mark,
+        bits: u64::from(bits),
     }
 }
 

@@ -33,3 +33,4 @@ pub mod Missing
 pub mod Raising
 pub mod Counted
 pub mod Stamping
+pub mod Packed

@@ -1,9 +1,9 @@
 -- `restoring::candidate_rows::row_of` meets its contract.
 use mathlib.Core.Path.{ap, ◌∙◌}
 use native.Mathlib.Omega.{arith}
-use mir.Val.{bool_byte}
-use Rattle.machine.specs.Table.{one}
-use Rattle.restoring.proofs.LineFields.{one_byte, witness_byte, row_made}
+use Rattle.regions.specs.Packed.{bit}
+use Rattle.store.proofs.Packed.{packed, witness-is}
+use Rattle.restoring.proofs.LineFields.{row_made}
 use Rattle.restoring.proofs.candidate_rows.row_of.Goals as goal
 
 pub returns : goal.returns
@@ -11,9 +11,5 @@ returns c =
     let fits = c.well_formed in
     row_made c.args.r c.args.c
     (record { w0 = omega (arith, fits); w1 = omega (arith, fits); w2 = omega (arith, fits); w3 = omega (arith, fits) })
-    c.from-kind.ensures
-    (c.from-witness.ensures ∙ ap bool_byte c.eq.ensures ∙ witness_byte c.args.c.kind)
-    (c.from-preferred.ensures ∙ one_byte _)
-    (c.from-owns.ensures ∙ one_byte _ ∙ ap one c.is_owner.ensures)
-    (c.from-mark.ensures ∙ one_byte _)
-    c.deadline_for.ensures
+    c.is_owner.ensures c.deadline_for.ensures
+    (packed c.args.r.key.kind c.eq.result c.args.c.preferred c.is_owner.result c.args.r.mark c.from.ensures (ap bit c.eq.ensures ∙ witness-is c.args.c.kind))
