@@ -20,7 +20,7 @@ use Rattle.words.proofs.Records.{length-recs, recs_at}
 use Rattle.regions.specs.declared.Quad.{Quad}
 use Rattle.regions.specs.declared.Key.{Key}
 use Rattle.regions.specs.Numbered.{numbered}
-use Rattle.regions.specs.Order.{Sought}
+use Rattle.regions.specs.Order.{Bound, Sought}
 use Rattle.regions.specs.Rows.{quad_words, quad_number, key_number, row_size, row_key, read_row, key_of}
 use Rattle.regions.proofs.Order.{Small, test}
 
@@ -80,16 +80,11 @@ behind_all {n} q h m l = last_number ∙ sym (min-eq_right (omega (arith, above_
 -- ---- what a search then gives
 
 -- no key is as great as that, so the place that it gives is that of the number itself
-pub sought_numbered : {ks : List ℕ} {n x r : ℕ} → ((i : ℕ) → i < length ks → get_or ks i 0 < 2 * top) → Sought ks n (min x (2 * top)) r → Sought ks n x r
-sought_numbered {ks} {n} {x} {r} f s = record {
-  most = s.most;
-  bound = λ o.
-      let b = s.bound o in
-      record {
-        most = b.most;
-        below = λ k h. omega (arith, b.below k h, min-le_left x (2 * top));
-        above = λ k h l. above (get_or ks k 0) (f k l) (b.above k h l);
-      };
+pub bound_numbered : {ks : List ℕ} {x r : ℕ} → ((i : ℕ) → i < length ks → get_or ks i 0 < 2 * top) → Bound ks (min x (2 * top)) r → Bound ks x r
+bound_numbered {ks} {x} {r} f b = record {
+  most = b.most;
+  below = λ k h. omega (arith, b.below k h, min-le_left x (2 * top));
+  above = λ k h l. above (get_or ks k 0) (f k l) (b.above k h l);
 }
   where
     above : (y : ℕ) → y < 2 * top → min x (2 * top) ≤ y → x ≤ y
@@ -98,10 +93,15 @@ sought_numbered {ks} {n} {x} {r} f s = record {
       | inr t ↦ rw (min-eq_left {n = x} {m = 2 * top} (ltb-false (2 * top) x t)) at h
     ]
 
+pub sought_numbered : {ks : List ℕ} {n x r : ℕ} → ((i : ℕ) → i < length ks → get_or ks i 0 < 2 * top) → Sought ks n (min x (2 * top)) r → Sought ks n x r
+sought_numbered f s = record { most = s.most; bound = λ o. bound_numbered f (s.bound o) }
+
 -- the keys of rows that bytes hold are such
-module _ (s : List ℕ) (f : (i : ℕ) → get_or s i 0 < 256) where
+module _ (s : List ℕ) (f : (i : ℕ) → i < length s → get_or s i 0 < 256) where
   word_fits : (j : ℕ) → 8 * j + 8 ≤ length s → get_or (words s) j 0 < 2 ^ 64
-  word_fits j h = omega (arith, word_sum s j h, f (j * 8), f (j * 8 + 1), f (j * 8 + 2), f (j * 8 + 3), f (j * 8 + 4), f (j * 8 + 5), f (j * 8 + 6), f (j * 8 + 7))
+  word_fits j h =
+      let at : (m : ℕ) → m < 8 → get_or s (j * 8 + m) 0 < 256 = λ m l. f (j * 8 + m) (omega arith) in
+      omega (arith, word_sum s j h, f (j * 8) (omega arith), at 1 (lit< tt), at 2 (lit< tt), at 3 (lit< tt), at 4 (lit< tt), at 5 (lit< tt), at 6 (lit< tt), at 7 (lit< tt))
 
   module _ (n : ℕ) (room : 8 * (row_size * n) ≤ length s) where
     part_fits : (i j : ℕ) → i < n → j < row_size → get_or (take row_size (drop (row_size * i) (words s))) j 0 < 2 ^ 64

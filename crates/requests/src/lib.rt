@@ -180,7 +180,7 @@ pub fn cut(s: &mut [u8], k: ident::Key, n: u64)
 
 // ---- a candidate that adopts what another brings
 
-// (`same` is a fact of two kinds, here and below: one bit of the row goes by it, and no step.)
+// Whether the item is v then. (`same` is a fact of two kinds, here and below: one bit of the row goes by it, and no step.)
 fn adopts_witness(same: bool, k: ident::ItemKind, r: regions::Row) -> bool
     ensures { bit result ≡ witness_as same k r.bits }
 {
@@ -284,7 +284,7 @@ pub fn ready_all(s: &mut [u8], k: ident::Key, v: u64)
     );
 }
 
-// The request at k, if there is one, gets the fallback mark.
+// The request at k, if there is one, gets the fallback mark. (Its rows' bits are changed, of whose numbers `marked_row` speaks.)
 pub fn mark(s: &mut [u8], k: ident::Key)
     requires { Kept s.old }
     ensures { Makes s.old s.new (λ t. Unit {0}) (fail.mark (key_num k)) }

@@ -34,3 +34,4 @@ pub mod Raising
 pub mod Counted
 pub mod Stamping
 pub mod Packed
+pub mod Numbered

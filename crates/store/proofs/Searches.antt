@@ -20,7 +20,7 @@ use Rattle.store.specs.Shown.{row_numbers, row_conns, conn_names, place_hashes}
 
 module _ (L : ℕ) {w : List ℕ} where
   module _ (rs : List Row) (l : length rs ≤ L) (h : Holds row_size row_words L rs w) where
-    numbers : recs row_size row_key (length rs) w ≡ row_numbers rs
+    pub numbers : recs row_size row_key (length rs) w ≡ row_numbers rs
     unfolding row_words read_row
     numbers = column row_size row_words (λ r. refl) row_key _ (λ r. refl) L rs l h
 
