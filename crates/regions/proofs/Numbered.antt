@@ -8,7 +8,7 @@ use native.Mathlib.Omega.{arith}
 use lib.Dec.{lit<, ltb}
 use lib.ListN.{length, get_or, take, drop}
 use lib.Seq.{get_or-drop, get_or-take}
-use borrow.Author.Tests.{ltb-true, ltb-false}
+use borrow.Author.Tests.{ltb-true, ltb-false, lt-ltb}
 use Rattle.std.proofs.Math.Nat.{min-eq_left, min-eq_right, min-le_left}
 use Rattle.ident.specs.declared.Kind.{Kind}
 use Rattle.ident.specs.declared.Kind.TheVariants.{Txid, Wtxid}
@@ -95,6 +95,13 @@ bound_numbered {ks} {x} {r} f b = record {
 
 pub sought_numbered : {ks : List ℕ} {n x r : ℕ} → ((i : ℕ) → i < length ks → get_or ks i 0 < 2 * top) → Sought ks n (min x (2 * top)) r → Sought ks n x r
 sought_numbered f s = record { most = s.most; bound = λ o. bound_numbered f (s.bound o) }
+
+-- and a key stands before it exactly if it stands before the number
+pub short_numbered : (y x : ℕ) → y < 2 * top → ltb y (min x (2 * top)) ≡ ltb y x
+short_numbered y x h = elim (test (ltb (2 * top) x)) [
+  | inl t ↦ let g = ltb-true (2 * top) x t in rw (min-eq_right {n = 2 * top} {m = x} (omega arith)) (lt-ltb y (2 * top) h ∙ sym (lt-ltb y x (omega arith)))
+  | inr t ↦ rw (min-eq_left {n = x} {m = 2 * top} (ltb-false (2 * top) x t)) refl
+]
 
 -- the keys of rows that bytes hold are such
 module _ (s : List ℕ) (f : (i : ℕ) → i < length s → get_or s i 0 < 256) where

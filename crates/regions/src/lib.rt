@@ -90,7 +90,7 @@ const BEHIND_ALL: Bound<Key> = Bound::Excluded(Key {
 });
 
 // A candidate of a request. The deadline is 0 unless it owns the request; bits, packed as the bytes of a store are: 1 Wtxid kind, 2 item is v, 4 preferred, 8 owns, 16 mark.
-// (`row_bits` says what each stands for; its methods divide, as the specs do.)
+// (`row_bits` says what each stands for: methods of a row take them apart by divisions, as the specs do, and a `RowBits` makes their sum.)
 #[derive(Clone, Copy)]
 pub struct Row {
     pub hash: Quad,
@@ -292,7 +292,8 @@ fn key_with(kind: u64, hash: Quad) -> Key
     }
 }
 
-// Where rows begin by any number for a kind. No row has another than 0 or 1: all come before a greater one.
+// Where rows begin by any number for a kind, and a hash: those that do not come before the two (Included), or that come after them
+// (Excluded). No row has another number than 0 or 1: all come before a greater one.
 pub fn start_at(start: Bound<(u64, Quad)>) -> Bound<Key>
     ensures { start_number result ≡ min (start_numbered start) (2 * top) }
 {

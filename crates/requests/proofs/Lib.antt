@@ -9,3 +9,4 @@ pub mod AtHash
 pub mod Holding
 pub mod Finding
 pub mod Shearing
+pub mod Numbered

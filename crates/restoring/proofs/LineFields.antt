@@ -61,8 +61,8 @@ module _ (p : Maybe parts-package.Package) where
 
 -- ---- the row of a candidate
 
-pub row_made : (r : line-request.Request) (c : line-candidate.Candidate) → QuadFits r.key.hash → {o : Bool} {n d : ℕ} → o ≡ owner_is c.connection (owner_of r.owner) → d ≡ deadline_for c.connection (owner_of r.owner)
-    → n ≡ bits_of r.key.kind (witness_bit c.kind) c.preferred o r.mark
+pub row_made : (r : line-request.Request) (c : line-candidate.Candidate) → QuadFits r.key.hash → {o : Bool} {n d : ℕ} → o ≡ owner_is c.connection (owner_of r.owner)
+    → d ≡ deadline_for c.connection (owner_of r.owner) → n ≡ bits_of r.key.kind (witness_bit c.kind) c.preferred o r.mark
     → ◌≡◌ {A = Row} (record { hash = r.key.hash; conn = c.connection; ready = c.ready; prio = c.priority; deadline = d; bits = n }) (row_of (request_in [] [] r) (candidate_in c))
 unfolding row_of
 row_made r c f eo ed e =
