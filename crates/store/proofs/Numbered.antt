@@ -1,14 +1,13 @@
 -- A search of a store's rows from where `regions::start_at` says gives the place of any number for a kind.
 use Prim.Native.Nat.{ℕ, min, ◌+◌, ◌-◌, ◌*◌, ◌≤◌, ◌<◌}
-use mathlib.Core.Path.{◌≡◌, refl, sym, ap, ◌∙◌}
+use mathlib.Core.Path.{◌≡◌, refl}
 use mathlib.Core.List.{List}
 use native.Mathlib.Omega.{arith}
-use lib.ListN.{length, take, drop, get_or, length-drop}
+use lib.ListN.{length, drop, get_or, length-drop}
 use lib.Seq.{get_or-drop, get_or-take, length-take-le}
 use Rattle.ident.specs.Number.{top}
 use Rattle.words.specs.Words.{words, recs}
 use Rattle.words.proofs.Records.{length-recs}
-use Rattle.regions.specs.Order.{Bound}
 use Rattle.regions.specs.Rows.{row_size, row_key}
 use Rattle.regions.proofs.Numbered.{bound_numbered, row-keys_below}
 use Rattle.store.specs.Flat.{Flat}
