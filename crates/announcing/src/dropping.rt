@@ -12,6 +12,6 @@ pub fn keep_row(s: &mut [u8], m: usize, i: usize, r: regions::Row)
     ensures { Turns s.old s.new (λ f. with_rows (set f.rows m r) f) }
 {
     if m < i {
-        store::rows::set_row(s, m, r);
+        store::parts::set(s, m, r);
     }
 }

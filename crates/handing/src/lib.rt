@@ -40,7 +40,7 @@ fn copy_conns(s: &[u8], k: ident::Key, conns: &mut [u64; MAX_ALTERNATES]) -> usi
     let key = regions::Key::from(k);
     let w = requests::window_of(s, key);
     let from = w.from;
-    let n = w.to - from;
+    let n = w.len();
     for i in 0..n {
         let r = store::rows::row_at(s, from + i);
         conns[i] = r.conn;
@@ -169,7 +169,7 @@ fn is_single(s: &[u8], k: ident::Key) -> bool
 {
     let key = regions::Key::from(k);
     let w = requests::window_of(s, key);
-    w.to - w.from == 1
+    w.len() == 1
 }
 
 // Whether nothing is to be announced when the owner n leaves k: it has no parents to hand on, or nobody to hand them to.

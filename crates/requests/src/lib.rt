@@ -111,7 +111,7 @@ pub fn figures(s: &[u8], n: u64) -> regions::Conn
     ensures { Tells s.now (λ t. FiguresOf t n result.held result.owned) }
 {
     match store::counting::find(s, n) {
-        Ok(i) => store::conns::conn_at(s, i),
+        Ok(i) => store::parts::at(s, i),
         Err(_) => regions::Conn {
             conn: n,
             held: 0,
@@ -129,7 +129,7 @@ fn candidates_of(s: &[u8], k: ident::Key) -> usize
 {
     let key = regions::Key::from(k);
     let w = window_of(s, key);
-    w.to - w.from
+    w.len()
 }
 
 // How many candidates the hash h has, over both kinds. (Both keys of a hash by their two constructors, wherever both are wanted: of a pair each reader would take them apart again.)
@@ -163,7 +163,7 @@ pub fn push(s: &mut [u8], k: ident::Key, c: Candidate)
     let w = window_of(s, key);
     let mark = mark_in(s, w.from, w.to);
     let r = new_row(key, c, mark);
-    store::rows::add_row(s, w.to, r);
+    store::parts::add(s, w.to, r);
     store::counting::count_in(s, c.connection, 1);
 }
 
@@ -173,7 +173,7 @@ pub fn cut(s: &mut [u8], k: ident::Key, n: u64)
     ensures { Makes s.old s.new (λ t. (has n (at (key_num k) t).candidates ≡ true) × (owner_is n (at (key_num k) t).owner ≡ false)) (machine.cut (key_num k) n) }
 {
     if let Some(i) = find_row(s, regions::Key::from(k), n) {
-        store::rows::drop_row(s, i);
+        store::parts::drop::<regions::Row>(s, i);
         store::counting::count_out(s, n, 0);
     }
 }
@@ -213,7 +213,7 @@ pub fn adopt(s: &mut [u8], k: ident::Key, c: Candidate, same: bool)
 {
     if let Some(i) = find_row(s, regions::Key::from(k), c.connection) {
         let r = store::rows::row_at(s, i);
-        store::rows::set_row(s, i, adopted_row(r, c, same));
+        store::parts::set(s, i, adopted_row(r, c, same));
     }
 }
 
@@ -249,7 +249,7 @@ pub fn own(s: &mut [u8], k: ident::Key, n: u64, deadline: u64)
 {
     if let Some(i) = find_row(s, regions::Key::from(k), n) {
         let r = store::rows::row_at(s, i);
-        store::rows::set_row(s, i, owned_row(r, deadline));
+        store::parts::set(s, i, owned_row(r, deadline));
         store::counting::recount(s, n, 0, 1);
     }
 }
@@ -261,7 +261,7 @@ pub fn disown(s: &mut [u8], k: ident::Key, n: u64)
 {
     if let Some(i) = find_row(s, regions::Key::from(k), n) {
         let r = store::rows::row_at(s, i);
-        store::rows::set_row(s, i, unowned_row(r));
+        store::parts::set(s, i, unowned_row(r));
         store::counting::recount(s, n, 1, 0);
     }
 }

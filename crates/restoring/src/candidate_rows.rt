@@ -52,5 +52,5 @@ pub fn add_candidate(s: &mut [u8], r: Request, c: Candidate)
 {
     let row = row_of(r, c);
     let n = store::head::rows(s);
-    store::rows::add_row(s, n, row);
+    store::parts::add(s, n, row);
 }

@@ -1,9 +1,11 @@
--- The words of a flat state: its header and counts, each region as a part that is lent and comes back.
+-- The words of a flat state, and a part of them that is lent and comes back.
 use Prim.Native.Nat.{ℕ, ◌+◌, ◌-◌, ◌*◌, ◌≤◌, ◌<◌}
 use mathlib.Core.Path.{◌≡◌, refl, sym, ap, ◌∙◌}
 use mathlib.Core.List.{List, [], ◌++◌, append_assoc, append-nil}
 use native.Mathlib.Omega.{arith}
+use native.Mathlib.Nat.{mul_comm, mul-le-mul_left}
 use lib.ListN.{length, take, drop, get_or, set, length-append, length-take, length-drop, replicate, length-replicate, replicate-append-replicate, drop_of_length-le}
+use Rattle.std.proofs.lemmas.List.{set-append_left, get_or_append_left, set-get_or}
 use lib.Seq.{take_at, drop_at}
 use Rattle.words.specs.Words.{words, splice}
 use Rattle.words.proofs.Parts.{words-lent, words_back}
@@ -17,10 +19,9 @@ use Rattle.machine.specs.Limits.{need}
 use Rattle.machine.specs.Step.{empty}
 use Rattle.machine.specs.Typed.{Each}
 use Rattle.store.specs.Flat.{Head, Flat, flat_of, tally}
-use Rattle.store.specs.Image.{head_size, head_words, words_of, Shows, Writes}
-use Rattle.store.specs.Shown.{limit_at, places_at, rows_at, conns_at, held_places_at, Sizes, Sized, Light, Shown, with_rows, with_conns, with_places}
-use Rattle.store.specs.Parts.{PartOf, conns_from, places_from, places_to, RowsPart, ConnsPart, PlacesPart}
-use Rattle.store.proofs.HeadWords.{head-length}
+use Rattle.store.specs.Image.{head_words, words_of, Shows, Writes}
+use Rattle.store.specs.Shown.{limit_at, places_at, rows_at, conns_at, held_places_at, limit_in, places_in, Sizes, Sized, Light, Shown}
+use Rattle.store.specs.Parts.{PartOf, Part, Region, Framed, PartLaws}
 
 -- ---- the whole, with counts that need not be those of the lists
 
@@ -40,21 +41,7 @@ pub framed_is : (f : Flat) → words_of f ≡ framed f.head (length f.rows) (len
 unfolding words_of
 framed_is f = refl
 
--- a count stored
-module _ (h : Head) (n c q v : ℕ) (b : List ℕ) where
-  set-rows : set (head_words h n c q ++ b) rows_at v ≡ head_words h v c q ++ b
-  unfolding head_words
-  set-rows = refl
-
-  set-conns : set (head_words h n c q ++ b) conns_at v ≡ head_words h n v q ++ b
-  unfolding head_words
-  set-conns = refl
-
-  set-places : set (head_words h n c q ++ b) held_places_at v ≡ head_words h n c v ++ b
-  unfolding head_words
-  set-places = refl
-
--- ---- a part of three that is lent and comes back
+-- ---- words in three pieces, the second lent and given back
 
 -- the bytes from .. to, and all bytes with w there
 abbrev pub lent : List ℕ → ℕ → ℕ → List ℕ
@@ -98,105 +85,67 @@ module _ {b : List ℕ} {f : Flat} (h : Shows b f) where
   pub words_framed : words b ≡ framed f.head (length f.rows) (length f.conns) (length f.places) f.rows f.conns f.places
   words_framed = h.words_are ∙ framed_is f
 
-  -- what the rows, connections and places in use are, and words that show them with counts n, c, q
-  abbrev framing : ℕ → ℕ → ℕ → List Row → List Conn → List Place → List ℕ
-  framing n c q rs cs ps = framed f.head n c q rs cs ps
+-- ---- a part that is lent and comes back
 
-  abbrev A : List ℕ
-  A = head_words f.head (length f.rows) (length f.conns) (length f.places)
+module _ {A : Type 0} {k : ℕ} {p : Part A} {enc : A → List ℕ} {count : ℕ} (laws : PartLaws k p enc count) where
+  module _ {b : List ℕ} {f : Flat} (h : Shows b f) where
+    abbrev pub r : Framed k p enc count f
+    r = laws.framed f
 
-  la : length A ≡ head_size
-  la = head-length f.head (length f.rows) (length f.conns) (length f.places)
+    abbrev pub L : ℕ
+    L = f.head.limit
 
-  abbrev rs : List ℕ
-  rs = row_part f.head.limit f.rows
+    abbrev pub Q : ℕ
+    Q = f.head.places
 
-  abbrev cs : List ℕ
-  cs = conn_part f.head.limit f.conns
+    -- the words with the list xs in the part, and the count as it was
+    abbrev pub with_part : List A → List ℕ
+    with_part xs = r.before ++ (padded (k * p.room L Q) (each enc xs) ++ r.behind)
 
-  abbrev ps : List ℕ
-  ps = place_part f.head.places f.places
+    in_before : count < length r.before
+    in_before = omega (arith, laws.in_head, laws.behind_head L Q, r.long)
 
-  lr : head_size + length rs ≡ conns_from b
-  lr = rw (length-padded (row_size * f.head.limit) (each row_words f.rows)) (omega (arith, sizes))
+    pub part-counts : get_or (words b) count 0 ≡ length (p.list f)
+    part-counts = ap (λ (w : List ℕ). get_or w count 0) (h.words_are ∙ r.words_are) ∙ get_or_append_left r.before _ 0 count in_before ∙ r.counts
 
-  lc : conns_from b + length cs ≡ places_from b
-  lc = rw (length-padded (conn_size * f.head.limit) (each conn_words f.conns)) (omega (arith, sizes))
+    module _ {from to : ℕ} (q : Region k p b from to) where
+      region : PartOf b (p.first L Q) (p.first L Q + p.room L Q * k) from to
+      region = rw ((sizes h).limit, (sizes h).places) at q
 
-  by_conns : words b ≡ (A ++ rs) ++ (cs ++ ps)
-  by_conns = words_framed ∙ sym (append_assoc A rs (cs ++ ps))
+      filled_to : p.first L Q + length (padded (k * p.room L Q) (each enc (p.list f))) ≡ p.first L Q + p.room L Q * k
+      filled_to = rw (length-padded (k * p.room L Q) (each enc (p.list f)), mul_comm k (p.room L Q)) refl
 
-  lar : length (A ++ rs) ≡ conns_from b
-  lar = rw length-append (omega (arith, la, lr))
+      pub part-lent : Holds k enc (p.room L Q) (p.list f) (words (lent b from to))
+      part-lent = lent_is region r.before _ r.behind (h.words_are ∙ r.words_are) r.long filled_to
 
-  by_places : words b ≡ (A ++ (rs ++ cs)) ++ (ps ++ [])
-  by_places = words_framed ∙ rw append-nil (simp append_assoc)
+      pub part_back : (w : List ℕ) (xs : List A) → length w ≡ length (lent b from to) → Holds k enc (p.room L Q) xs (words w) → words (replaced b from to w) ≡ with_part xs
+      part_back w xs l e = back_is region r.before _ r.behind (h.words_are ∙ r.words_are) r.long filled_to w l ∙ rw e
 
-  lac : length (A ++ (rs ++ cs)) ≡ places_from b
-  lac = rw (length-append, length-append) (omega (arith, la, lr, lc))
+    module _ {b' : List ℕ} (l : length b' ≡ length b) where
+      -- its records replaced by as many
+      pub part_same : (xs : List A) → length xs ≡ length (p.list f) → words b' ≡ with_part xs → Shows b' (p.changed xs f)
+      part_same xs n e = record {
+        long = l ∙ h.long ∙ ap (λ (d : Head). need d.limit d.places) (sym (r.head_stays xs));
+        words_are = e ∙ sym (r.changed_are xs ∙ rw (n, ← r.counts, set-get_or r.before count 0) refl);
+      }
 
-  lp : places_from b + length ps ≡ places_to b
-  lp = rw (length-padded (place_size * f.head.places) (each place_words f.places)) (omega (arith, sizes))
+      -- and by others, with their count
+      pub part-counted : {w : List ℕ} (xs : List A) (v : ℕ) → length xs ≡ v → w ≡ with_part xs → words b' ≡ set w count v → Shows b' (p.changed xs f)
+      part-counted xs v n e g = record {
+        long = l ∙ h.long ∙ ap (λ (d : Head). need d.limit d.places) (sym (r.head_stays xs));
+        words_are = g ∙ rw (e, ← n) (set-append_left r.before _ count (length xs) in_before ∙ sym (r.changed_are xs));
+      }
 
-  module _ {from to : ℕ} where
-    module _ (p : RowsPart b from to) where
-      pub rows-lent : Holds row_size row_words f.head.limit f.rows (words (lent b from to))
-      rows-lent = lent_is p A rs (cs ++ ps) words_framed la lr
+  -- a part has room for the records in use
+  pub part-few : {b : List ℕ} → Shown b → get_or (words b) count 0 ≤ p.room (limit_in b) (places_in b)
+  part-few s = rw (s.sizes.limit, s.sizes.places, part-counts s.shows) (laws.few s.flat s.sized)
 
-      pub rows_back : (w : List ℕ) (xs : List Row) → length w ≡ length (lent b from to) → Holds row_size row_words f.head.limit xs (words w)
-          → words (replaced b from to w) ≡ framing (length f.rows) (length f.conns) (length f.places) xs f.conns f.places
-      rows_back w xs l k = back_is p A rs (cs ++ ps) words_framed la lr w l ∙ rw k
-
-    module _ (p : ConnsPart b from to) where
-      pub conns-lent : Holds conn_size conn_words f.head.limit f.conns (words (lent b from to))
-      conns-lent = lent_is p (A ++ rs) cs ps by_conns lar lc
-
-      pub conns_back : (w : List ℕ) (xs : List Conn) → length w ≡ length (lent b from to) → Holds conn_size conn_words f.head.limit xs (words w)
-          → words (replaced b from to w) ≡ framing (length f.rows) (length f.conns) (length f.places) f.rows xs f.places
-      conns_back w xs l k = back_is p (A ++ rs) cs ps by_conns lar lc w l ∙ rw k (append_assoc A rs (conn_part f.head.limit xs ++ ps))
-
-    module _ (p : PlacesPart b from to) where
-      pub places-lent : Holds place_size place_words f.head.places f.places (words (lent b from to))
-      places-lent = lent_is p (A ++ (rs ++ cs)) ps [] by_places lac lp
-
-      pub places_back : (w : List ℕ) (xs : List Place) → length w ≡ length (lent b from to) → Holds place_size place_words f.head.places xs (words w)
-          → words (replaced b from to w) ≡ framing (length f.rows) (length f.conns) (length f.places) f.rows f.conns xs
-      places_back w xs l k = back_is p (A ++ (rs ++ cs)) ps [] by_places lac lp w l ∙ rw (k, append-nil) (simp append_assoc)
-
-  -- ---- and what they show afterwards
-
-  module _ {b' : List ℕ} (l : length b' ≡ length b) where
-    -- rows replaced by as many
-    pub rows_same : (xs : List Row) → length xs ≡ length f.rows → words b' ≡ framing (length f.rows) (length f.conns) (length f.places) xs f.conns f.places → Shows b' (with_rows xs f)
-    rows_same xs n e = record { long = l ∙ h.long; words_are = e ∙ rw (← n) (sym (framed_is (with_rows xs f))) }
-
-    -- rows with another count
-    pub rows-counted : {w : List ℕ} (xs : List Row) (v : ℕ) → length xs ≡ v → w ≡ framing (length f.rows) (length f.conns) (length f.places) xs f.conns f.places
-        → words b' ≡ set w rows_at v → Shows b' (with_rows xs f)
-    rows-counted xs v n e g =
-        record { long = l ∙ h.long; words_are = g ∙ rw (e, ← n) (set-rows f.head (length f.rows) (length f.conns) (length f.places) (length xs) _ ∙ sym (framed_is (with_rows xs f))) }
-
-    pub conns_same : (xs : List Conn) → length xs ≡ length f.conns → words b' ≡ framing (length f.rows) (length f.conns) (length f.places) f.rows xs f.places
-        → Shows b' (with_conns xs f)
-    conns_same xs n e = record { long = l ∙ h.long; words_are = e ∙ rw (← n) (sym (framed_is (with_conns xs f))) }
-
-    pub conns-counted : {w : List ℕ} (xs : List Conn) (v : ℕ) → length xs ≡ v → w ≡ framing (length f.rows) (length f.conns) (length f.places) f.rows xs f.places
-        → words b' ≡ set w conns_at v → Shows b' (with_conns xs f)
-    conns-counted xs v n e g = record {
-      long = l ∙ h.long;
-      words_are = g ∙ rw (e, ← n) (set-conns f.head (length f.rows) (length f.conns) (length f.places) (length xs) _ ∙ sym (framed_is (with_conns xs f)));
-    }
-
-    pub places_same : (xs : List Place) → length xs ≡ length f.places → words b' ≡ framing (length f.rows) (length f.conns) (length f.places) f.rows f.conns xs
-        → Shows b' (with_places xs f)
-    places_same xs n e = record { long = l ∙ h.long; words_are = e ∙ rw (← n) (sym (framed_is (with_places xs f))) }
-
-    pub places-counted : {w : List ℕ} (xs : List Place) (v : ℕ) → length xs ≡ v → w ≡ framing (length f.rows) (length f.conns) (length f.places) f.rows f.conns xs
-        → words b' ≡ set w held_places_at v → Shows b' (with_places xs f)
-    places-counted xs v n e g = record {
-      long = l ∙ h.long;
-      words_are = g ∙ rw (e, ← n) (set-places f.head (length f.rows) (length f.conns) (length f.places) (length xs) _ ∙ sym (framed_is (with_places xs f)));
-    }
+-- n records lie within a part that has room for them
+pub room_for : {b : List ℕ} {a : ℕ} (k m n : ℕ) {from to : ℕ} → PartOf b a (a + m * k) from to → n ≤ m → 8 * (k * n) ≤ length (lent b from to)
+room_for k m n q h =
+    let e : k * n ≤ k * m = mul-le-mul_left k h in
+    let c : k * m ≡ m * k = mul_comm k m in
+    rw (length-take, length-drop) (omega (arith, q))
 
 -- ---- lists with one element more or less
 

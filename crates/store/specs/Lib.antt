@@ -5,5 +5,6 @@ pub mod Image
 pub mod Read
 pub mod Shown
 pub mod Parts
+pub mod PartLaws
 pub mod Counting
 pub mod Stamps

@@ -5,7 +5,7 @@ ghost use Rattle.machine.specs.Limits.{max_announcements};
 ghost use Rattle.store.specs.Counting.{raise, adjusted, less_one, unbump, reowned, retally};
 ghost use Rattle.store.specs.Shown.{limit_in, conns_in, Light, Shown, EntryOf, Tallies};
 
-use crate::{conns, head};
+use crate::{conns, head, parts};
 
 // Where the entry of the connection x stands, or would.
 pub fn find(s: &[u8], x: u64) -> Result<usize, usize>
@@ -13,7 +13,7 @@ pub fn find(s: &[u8], x: u64) -> Result<usize, usize>
     ensures { EntryOf s.now x result }
 {
     let i = conns::seek_conn(s, x);
-    if i < head::conns(s) && conns::conn_at(s, i).conn == x {
+    if i < head::conns(s) && parts::at::<regions::Conn>(s, i).conn == x {
         Ok(i)
     } else {
         Err(i)
@@ -27,12 +27,12 @@ pub fn count_in(s: &mut [u8], x: u64, d: u64)
 {
     match find(s, x) {
         Ok(i) => {
-            let c = conns::conn_at(s, i);
+            let c: regions::Conn = parts::at(s, i);
             let e = regions::Conn {
                 held: c.held + d,
                 ..c
             };
-            conns::set_conn(s, i, e);
+            parts::set(s, i, e);
         }
         Err(i) => {
             let e = regions::Conn {
@@ -40,7 +40,7 @@ pub fn count_in(s: &mut [u8], x: u64, d: u64)
                 held: d,
                 owned: 0,
             };
-            conns::add_conn(s, i, e);
+            parts::add(s, i, e);
         }
     }
 }
@@ -52,14 +52,14 @@ pub fn adjust<F: FnOnce(regions::Conn) -> Option<regions::Conn>>(s: &mut [u8], x
     ensures { (g : Conn → Option Conn) → ((c : Conn) (r : Option Conn) → F.post change c r → r ≡ g c) → Tallies s.old s.new (adjusted x g) }
 {
     if let Ok(i) = find(s, x) {
-        match change(conns::conn_at(s, i)) {
-            Some(c) => conns::set_conn(s, i, c),
-            None => conns::drop_conn(s, i),
+        match change(parts::at(s, i)) {
+            Some(c) => parts::set(s, i, c),
+            None => parts::drop::<regions::Conn>(s, i),
         }
     }
 }
 
-// One row less of the connection x, whose bit of owning was o. (A number, here and below: it is what a count loses or gains.)
+// One row less of the connection x, whose bit of owning was o. (A number, here and below: the contract speaks of any o, which a `bool` would not take.)
 pub fn count_out(s: &mut [u8], x: u64, o: u64)
     requires { Shown s.old }
     ensures { Tallies s.old s.new (unbump x o) }

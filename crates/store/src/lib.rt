@@ -5,8 +5,8 @@
 // only that counts and sums are in range (`Shown`). `Shown` and `Kept` stay clauses: tried as a ghost field of a struct over `&mut [u8]`, and each
 // function then said in a clause that the reference stays.
 //
-// Rows, connections and places have a function each for one thing done to their lists: one generic over the record would need a trait with the part, the word
-// of the count, the list of a flat state, that list changed, and laws of them, longer than the pairs.
+// Rows and connections are read, replaced, put in and taken out by one function each, over a trait of a store's parts (`parts`). Places are not: the code has no value of a
+// whole place, so that `package_places` opens, closes and changes them by functions of its own.
 #![tactic(auto)]
 
 pub mod conns;
@@ -14,5 +14,6 @@ pub mod counting;
 pub mod head;
 pub mod layout;
 pub mod package_places;
+pub mod parts;
 pub mod rows;
 pub mod stamps;

@@ -4,7 +4,7 @@ ghost use Rattle.regions.specs.declared.Row.{Row};
 ghost use Rattle.store.specs.Shown.{rows_in, Shown, with_rows, Turns};
 ghost use Rattle.store.specs.Stamps.{map_in};
 
-use crate::rows;
+use crate::{parts, rows};
 
 // Each of the rows of a window becomes what `change` makes of it.
 pub fn change_rows<F: Fn(regions::Row) -> regions::Row>(s: &mut [u8], w: rows::Window, change: F)
@@ -14,6 +14,6 @@ pub fn change_rows<F: Fn(regions::Row) -> regions::Row>(s: &mut [u8], w: rows::W
 {
     for i in w.from..w.to {
         let r = rows::row_at(s, i);
-        rows::set_row(s, i, change(r));
+        parts::set(s, i, change(r));
     }
 }

@@ -27,7 +27,7 @@ fn fill(s: &mut [u8])
             held: 1,
             owned: u64::from(r.owns()),
         };
-        store::conns::add_conn(s, i, c);
+        store::parts::add(s, i, c);
     }
 }
 

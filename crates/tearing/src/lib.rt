@@ -47,7 +47,7 @@ fn tear_row(s: &mut [u8], m: usize, i: usize, clock: u64, guess: usize) -> Stay
         return Stay { rows: m, at };
     }
     let ready = regions::Row { ready: clock, ..r };
-    store::rows::set_row(s, m, ready);
+    store::parts::set(s, m, ready);
     Stay { rows: m + 1, at }
 }
 

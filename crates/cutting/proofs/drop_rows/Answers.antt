@@ -1,6 +1,7 @@
 use native.Mathlib.Omega.{arith}
 use mathlib.Core.Path.{sym}
-use Rattle.store.proofs.Frame.{rows-lent, rows_back, rows-counted}
+use Rattle.store.specs.PartLaws.{row_laws}
+use Rattle.store.proofs.Frame.{part-lent, part_back, part-counted}
 use Rattle.package_stages.specs.Dead.{filter}
 use Rattle.cutting.specs.Cuts.{stays}
 use borrow.Author.Rules.{rules}
@@ -13,13 +14,13 @@ returns c =
       gone = λ f h.
           let n = c.rows-n.ensures.field f h in
           let m = c.retain-m.ensures.count q (λ x u b e p. p x e) f.head.limit f.rows (sym n)
-          (rows-lent h c.rows_part-part.ensures) in
+          (part-lent row_laws h c.rows_part-part.ensures) in
           omega (arith, c.retain-m.ensures.most);
       rows = λ f h.
           let n = c.rows-n.ensures.field f h in
-          let held = rows-lent h c.rows_part-part.ensures in
+          let held = part-lent row_laws h c.rows_part-part.ensures in
           let m = c.retain-m.ensures.count q (λ x u b e p. p x e) f.head.limit f.rows (sym n) held in
-          rows-counted h (search rules) (filter q f.rows) c.retain-m.result
-          (sym m) (rows_back h c.rows_part-part.ensures _ _ c.retain-m.auto.s
+          part-counted row_laws h (search rules) (filter q f.rows) c.retain-m.result
+          (sym m) (part_back row_laws h c.rows_part-part.ensures _ _ c.retain-m.auto.s
           (c.retain-m.ensures.region q (λ x u b e p. p x e) f.head.limit f.rows (sym n) held)) c.put.ensures.word;
     }

@@ -13,8 +13,8 @@ use Rattle.requests.proofs.adopt.Goals as goal
 pub row_at-r-requires : goal.row_at-r-requires
 row_at-r-requires c = (kept_shown c.requires, found-within c.in-Some.ensures)
 
-pub set_row-requires : goal.set_row-requires
-set_row-requires c = (
+pub set-requires : goal.set-requires
+set-requires c = (
   kept_shown c.requires,
   found-within c.in-Some.ensures,
 )
@@ -30,7 +30,7 @@ returns-in-Some c = λ st s w p.
     row_there k n 0 st.table s.bounded.ordered f c.row_at-r.result i in
     adopt_made st s k (candidate_of c.args.c)
     c.args.same f i
-    (c.adopted_row.ensures (at k st.table) f.one q) (c.set_row.ensures (flat_of st) w)
+    (c.adopted_row.ensures (at k st.table) f.one q) (c.set.ensures (flat_of st) w)
 
 pub returns-in_default : goal.returns-in_default
 returns-in_default c = λ st s w p.

@@ -11,8 +11,8 @@ use Rattle.requests.proofs.Cutting.{dropped-shown, cut_made}
 use Rattle.requests.proofs.Finding.{found-within, found-ahead, never-missing}
 use Rattle.requests.proofs.cut.Goals as goal
 
-pub drop_row-requires : goal.drop_row-requires
-drop_row-requires c = (kept_shown c.requires, found-within c.in-Some.ensures)
+pub drop-requires : goal.drop-requires
+drop-requires c = (kept_shown c.requires, found-within c.in-Some.ensures)
 
 pub count_out-requires : goal.count_out-requires
 count_out-requires c =
@@ -20,7 +20,7 @@ count_out-requires c =
     let z = sizes kept.writes in
     let l : c.in-Some.i < length (rows_of kept.state.table) =
     omega (arith, found-within c.in-Some.ensures) in
-    dropped-shown kept.state kept.sound (c.drop_row.ensures (flat_of kept.state) kept.writes) l
+    dropped-shown kept.state kept.sound (c.drop.ensures (flat_of kept.state) kept.writes) l
 
 pub returns-in-Some : goal.returns-in-Some
 returns-in-Some c = λ st s w p.
@@ -29,7 +29,7 @@ returns-in-Some c = λ st s w p.
     let key = c.from.ensures in
     let f = among n (at k st.table).candidates p.0 in
     let i = found-ahead st s k key.small key.number w n f c.in-Some.ensures in
-    cut_made st s k n p.1 f i (c.count_out.ensures _ (conns_in_order (rows_of st.table)) (c.drop_row.ensures (flat_of st) w))
+    cut_made st s k n p.1 f i (c.count_out.ensures _ (conns_in_order (rows_of st.table)) (c.drop.ensures (flat_of st) w))
 
 pub returns-in_default : goal.returns-in_default
 returns-in_default c = λ st s w p.

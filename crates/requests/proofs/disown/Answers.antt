@@ -14,8 +14,8 @@ use Rattle.requests.proofs.disown.Goals as goal
 pub row_at-r-requires : goal.row_at-r-requires
 row_at-r-requires c = (kept_shown c.requires, found-within c.in-Some.ensures)
 
-pub set_row-requires : goal.set_row-requires
-set_row-requires c = (
+pub set-requires : goal.set-requires
+set-requires c = (
   kept_shown c.requires,
   found-within c.in-Some.ensures,
 )
@@ -24,7 +24,7 @@ pub recount-requires : goal.recount-requires
 recount-requires c =
     let kept = c.requires in (
       replaced-shown kept.state kept.sound c.in-Some.i
-          c.unowned_row.result (c.set_row.ensures (flat_of kept.state) kept.writes),
+          c.unowned_row.result (c.set.ensures (flat_of kept.state) kept.writes),
       omega arith,
     )
 
@@ -40,7 +40,7 @@ returns-in-Some c = λ st s w p.
     row_there k n 0 st.table s.bounded.ordered f c.row_at-r.result i in
     let v = owner_at_lem n (at k st.table).owner p.owns in
     disown_made st s k n f i q v.owner v.is v.name p.info p.bare c.unowned_row.ensures
-    (c.recount.ensures _ (conns_in_order (rows_of st.table)) (c.set_row.ensures (flat_of st) w))
+    (c.recount.ensures _ (conns_in_order (rows_of st.table)) (c.set.ensures (flat_of st) w))
 
 pub returns-in_default : goal.returns-in_default
 returns-in_default c = λ st s w p.

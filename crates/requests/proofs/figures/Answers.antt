@@ -11,8 +11,8 @@ use Rattle.requests.proofs.figures.Goals as goal
 pub find-requires : goal.find-requires
 find-requires c = kept_shown c.requires
 
-pub conn_at-requires : goal.conn_at-requires
-conn_at-requires c = (kept_shown c.requires, c.in-Ok.ensures.inside)
+pub at-requires : goal.at-requires
+at-requires c = (kept_shown c.requires, c.in-Ok.ensures.inside)
 
 pub returns-in-Ok : goal.returns-in-Ok
 returns-in-Ok c = λ st s w.
@@ -21,7 +21,7 @@ returns-in-Ok c = λ st s w.
     let found = c.in-Ok.ensures in
     let bd = found.sought.bound (flat_of st) w (conns_in_order (rows_of st.table)) in
     let l : c.in-Ok.i < length (tally (rows_of st.table)) = omega (arith, found.inside) in
-    figures_found st s c.args.n bd d l (found.is (flat_of st) d w) (c.conn_at.ensures (flat_of st) d w)
+    figures_found st s c.args.n bd d l (found.is (flat_of st) d w) (c.at.ensures (flat_of st) d w)
 
 pub returns-in-Err : goal.returns-in-Err
 returns-in-Err c = λ st s w.

@@ -25,8 +25,8 @@ owned_row-requires c =
     bits_few kept.state kept.sound c.in-Some.i c.row_at-r.result l
     (c.row_at-r.ensures (flat_of kept.state) c.row_at-r.result kept.writes)
 
-pub set_row-requires : goal.set_row-requires
-set_row-requires c = (
+pub set-requires : goal.set-requires
+set-requires c = (
   kept_shown c.requires,
   found-within c.in-Some.ensures,
 )
@@ -35,7 +35,7 @@ pub recount-requires : goal.recount-requires
 recount-requires c =
     let kept = c.requires in (
       replaced-shown kept.state kept.sound c.in-Some.i
-          c.owned_row.result (c.set_row.ensures (flat_of kept.state) kept.writes),
+          c.owned_row.result (c.set.ensures (flat_of kept.state) kept.writes),
       omega arith,
     )
 
@@ -51,7 +51,7 @@ returns-in-Some c = λ st s w p.
     row_there k n 0 st.table s.bounded.ordered f c.row_at-r.result i in
     own_made st s k n f i q c.args.deadline
     p.1 c.owned_row.ensures
-    (c.recount.ensures _ (conns_in_order (rows_of st.table)) (c.set_row.ensures (flat_of st) w))
+    (c.recount.ensures _ (conns_in_order (rows_of st.table)) (c.set.ensures (flat_of st) w))
 
 pub returns-in_default : goal.returns-in_default
 returns-in_default c = λ st s w p.

@@ -15,8 +15,8 @@ use Rattle.requests.proofs.push.Goals as goal
 pub mark_in-mark-requires : goal.mark_in-mark-requires
 mark_in-mark-requires c = (kept_shown c.requires.0, c.window_of-w.ensures.most)
 
-pub add_row-requires : goal.add_row-requires
-add_row-requires c = (
+pub add-requires : goal.add-requires
+add-requires c = (
   kept_shown c.requires.0,
   c.window_of-w.ensures.most,
   c.requires.1,
@@ -30,7 +30,7 @@ count_in-requires c =
     let l : c.window_of-w.result.to ≤ length rs =
     omega (arith, c.window_of-w.ensures.most) in
     let m : length rs < kept.state.limit = omega (arith, c.requires.1) in
-    let added = added-shown kept.state kept.sound c.new_row-r.result (c.add_row.ensures (flat_of kept.state) kept.writes) l m in (
+    let added = added-shown kept.state kept.sound c.new_row-r.result (c.add.ensures (flat_of kept.state) kept.writes) l m in (
       added.0,
       added.1,
       omega arith,
@@ -49,4 +49,4 @@ returns c = λ st s w o.
     let r = c.new_row-r.ensures (at k st.table) (key.hash ∙ its-hash st s k key.small)
     (key.kind ∙ its-kind st s k key.small) o m in
     pushed st s k (candidate_of c.args.c) to r o refl
-    (c.count_in.ensures _ (conns_in_order (rows_of st.table)) (c.add_row.ensures (flat_of st) w))
+    (c.count_in.ensures _ (conns_in_order (rows_of st.table)) (c.add.ensures (flat_of st) w))

@@ -14,8 +14,8 @@ row_at-r-requires c = (
       c.requires.0 c.loop-i.invariant c.loop-i-test.true,
 )
 
-pub add_conn-requires : goal.add_conn-requires
-add_conn-requires c = (
+pub add-requires : goal.add-requires
+add-requires c = (
   filling_shown c.requires.0 c.loop-i.invariant,
   (filling_room c.requires.0 c.loop-i.invariant
       c.loop-i-test.true).0,
@@ -27,4 +27,4 @@ pub loop-i-preserved : goal.loop-i-preserved
 loop-i-preserved c = filling_more c.requires.0
     c.loop-i.invariant c.loop-i-test.true
     c.row_at-r.ensures (as_bit (c.row_at-r.result.bits / 8) c.from.ensures c.owns.ensures)
-    c.add_conn.ensures c.add_conn.auto.s
+    c.add.ensures c.add.auto.s

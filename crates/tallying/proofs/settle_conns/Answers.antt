@@ -1,7 +1,8 @@
 -- `tallying::settle_conns` meets its contract.
 use mathlib.Core.Path.{sym}
 use native.Mathlib.Omega.{arith}
-use Rattle.store.proofs.Frame.{sizes, conns-lent, conns_back, conns-counted}
+use Rattle.store.specs.PartLaws.{conn_laws}
+use Rattle.store.proofs.Frame.{sizes, part-lent, part_back, part-counted}
 use borrow.Author.Rules.{rules}
 use Rattle.tallying.proofs.settle_conns.Goals as goal
 
@@ -19,7 +20,7 @@ settle-m-requires c = (
           c.requires.shows,
       c.requires.sized.conns_few,
     );
-    holds = conns-lent c.requires.shows c.conns_part-part.ensures;
+    holds = part-lent conn_laws c.requires.shows c.conns_part-part.ensures;
   },
 )
 
@@ -34,5 +35,5 @@ returns c = λ f h.
       c.requires.sized.conns_few,
       c.requires.sizes.conns,
       c.requires.sizes.limit,
-    )) (conns-lent h c.conns_part-part.ensures) in
-    conns-counted h (search rules) _ _ a.1 (conns_back h c.conns_part-part.ensures _ _ c.settle-m.auto.r a.0) c.put.ensures.word
+    )) (part-lent conn_laws h c.conns_part-part.ensures) in
+    part-counted conn_laws h (search rules) _ _ a.1 (part_back conn_laws h c.conns_part-part.ensures _ _ c.settle-m.auto.r a.0) c.put.ensures.word

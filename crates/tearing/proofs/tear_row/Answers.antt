@@ -22,4 +22,4 @@ returns c = tear_readies c.args.clock
     c.args.i
     c.row_at-r.ensures
     c.in-Ok.ensures refl
-    (not_one _ c.owns.ensures c.if-owns.false) refl c.set_row.ensures
+    (not_one _ c.owns.ensures c.if-owns.false) refl c.set.ensures

@@ -1,5 +1,6 @@
 use mathlib.Core.Path.{sym}
-use Rattle.store.proofs.Frame.{places-counted, places-lent, places_back}
+use Rattle.store.specs.PartLaws.{place_laws}
+use Rattle.store.proofs.Frame.{part-counted, part-lent, part_back}
 use Rattle.package_stages.specs.Dead.{filter, live}
 use borrow.Author.Rules.{rules}
 use Rattle.package_stages.proofs.dead.drop_dead.Goals as goal
@@ -7,9 +8,9 @@ use Rattle.package_stages.proofs.dead.drop_dead.Goals as goal
 pub returns : goal.returns
 returns c = λ f h.
     let part = c.places_part-part.ensures in
-    let held = places-lent h part in
+    let held = part-lent place_laws h part in
     let n = sym (c.held_places-n.ensures.field f h) in
     let m = c.retain-m.ensures.count live (λ x u b e p. p x e) f.head.places f.places n held in
-    places-counted h (search rules) (filter live f.places) c.retain-m.result (sym m) (places_back h part _ _
+    part-counted place_laws h (search rules) (filter live f.places) c.retain-m.result (sym m) (part_back place_laws h part _ _
     c.retain-m.auto.s (c.retain-m.ensures.region live (λ x u b e p. p x e) f.head.places f.places n held))
     c.put.ensures.word

@@ -1,8 +1,9 @@
 use native.Mathlib.Omega.{arith}
-use Rattle.store.proofs.Frame.{sizes, places-lent}
+use Rattle.store.specs.PartLaws.{place_laws}
+use Rattle.store.proofs.Frame.{sizes, part-lent}
 use Rattle.package_stages.proofs.flat.read_wtxid.Goals as goal
 
 pub returns : goal.returns
 returns c = λ f d h l.
     let z = sizes h in
-    c.read_wtxid.ensures.region f.head.places f.places d 0 (omega (arith, c.requires)) l (places-lent h c.places_part.ensures)
+    c.read_wtxid.ensures.region f.head.places f.places d 0 (omega (arith, c.requires)) l (part-lent place_laws h c.places_part.ensures)

@@ -1,7 +1,8 @@
 use native.Mathlib.Omega.{arith}
 use Prim.Native.Nat.{◌<◌}
 use lib.ListN.{length, length-set}
-use Rattle.store.proofs.Frame.{sizes, places-lent, places_back, places_same}
+use Rattle.store.specs.PartLaws.{place_laws}
+use Rattle.store.proofs.Frame.{sizes, part-lent, part_back, part_same}
 use borrow.Author.Rules.{rules}
 use Rattle.package_stages.proofs.flat.set_combined.Goals as goal
 
@@ -9,6 +10,6 @@ pub returns : goal.returns
 returns c = λ d f h.
     let z = sizes h in
     let i : c.args.i < length f.places = omega (arith, c.requires) in
-    let held = c.set_combined.ensures.region f.head.places f.places d i (places-lent h c.places_part-part.ensures) in
-    places_same h (search rules) _ (length-set f.places c.args.i _)
-    (places_back h c.places_part-part.ensures _ _ c.set_combined.auto.s held)
+    let held = c.set_combined.ensures.region f.head.places f.places d i (part-lent place_laws h c.places_part-part.ensures) in
+    part_same place_laws h (search rules) _ (length-set f.places c.args.i _)
+    (part_back place_laws h c.places_part-part.ensures _ _ c.set_combined.auto.s held)

@@ -3,4 +3,4 @@ use Rattle.restoring.proofs.Appending.{row-added}
 use Rattle.restoring.proofs.candidate_rows.add_candidate.Goals as goal
 
 pub returns : goal.returns
-returns c = row-added _ c.row_of-row.ensures c.rows-n.ensures.field c.add_row.ensures
+returns c = row-added _ c.row_of-row.ensures c.rows-n.ensures.field c.add.ensures

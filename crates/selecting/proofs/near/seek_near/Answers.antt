@@ -2,7 +2,8 @@
 use native.Mathlib.Omega.{arith}
 use Prim.Native.Nat.{◌≤◌}
 use lib.ListN.{length}
-use Rattle.store.proofs.Frame.{sizes, rows-lent}
+use Rattle.store.specs.PartLaws.{row_laws}
+use Rattle.store.proofs.Frame.{sizes, part-lent}
 use Rattle.store.proofs.Searches.{row_sought}
 use Rattle.selecting.proofs.near.seek_near.Goals as goal
 
@@ -12,5 +13,5 @@ returns c = record {
   bound = λ f h.
       let z = sizes h in
       let few : length f.rows ≤ f.head.limit = omega (arith, c.requires) in
-      row_sought f.head.limit f.rows few (rows-lent h c.rows_part.ensures) (c.rows-n.ensures.field f h) c.seek_in.ensures;
+      row_sought f.head.limit f.rows few (part-lent row_laws h c.rows_part.ensures) (c.rows-n.ensures.field f h) c.seek_in.ensures;
 }

@@ -5,7 +5,8 @@ use lib.ListN.{length}
 use Rattle.regions.specs.Regions.{insert_at}
 use Rattle.regions.specs.Rows.{quad_number}
 use Rattle.places.specs.Places.{blank}
-use Rattle.store.proofs.Frame.{sizes, places-lent, places_back, places-counted, length-insert}
+use Rattle.store.specs.PartLaws.{place_laws}
+use Rattle.store.proofs.Frame.{sizes, part-lent, part_back, part-counted, length-insert}
 use borrow.Author.Rules.{rules}
 use Rattle.store.proofs.package_places.open_place.Goals as goal
 
@@ -17,8 +18,8 @@ returns c = λ f h.
     omega (arith, c.requires) in
     let x = blank (quad_number c.args.h)
     c.args.stage in
-    let held = c.insert_place.ensures.region f.head.places f.places (sym n) (places-lent h c.places_part-part.ensures) in
+    let held = c.insert_place.ensures.region f.head.places f.places (sym n) (part-lent place_laws h c.places_part-part.ensures) in
     let m : length (insert_at c.args.i x f.places) ≡
     c.held_places-n.result + 1 = length-insert f.places
     c.args.i x i ∙ ap (λ j. j + 1) (sym n) in
-    places-counted h (search rules) _ _ m (places_back h c.places_part-part.ensures _ _ c.insert_place.auto.s held) c.put.ensures.word
+    part-counted place_laws h (search rules) _ _ m (part_back place_laws h c.places_part-part.ensures _ _ c.insert_place.auto.s held) c.put.ensures.word

@@ -1,7 +1,8 @@
 use native.Mathlib.Omega.{arith}
 use Prim.Native.Nat.{◌≤◌}
 use lib.ListN.{length}
-use Rattle.store.proofs.Frame.{sizes, rows-lent}
+use Rattle.store.specs.PartLaws.{row_laws}
+use Rattle.store.proofs.Frame.{sizes, part-lent}
 use Rattle.store.proofs.Searches.{row-met}
 use Rattle.store.proofs.rows.find_row.Goals as goal
 
@@ -12,5 +13,5 @@ returns c = record {
   first = λ f h.
       let z = sizes h in
       let few : length f.rows ≤ f.head.limit = omega (arith, c.requires) in
-      row-met f.head.limit f.rows few (rows-lent h c.rows_part.ensures) (omega (arith, c.requires)) c.find_conn_in.ensures;
+      row-met f.head.limit f.rows few (part-lent row_laws h c.rows_part.ensures) (omega (arith, c.requires)) c.find_conn_in.ensures;
 }
