@@ -21,7 +21,7 @@ use Rattle.machine.specs.Typed.{Each}
 use Rattle.store.specs.Flat.{Head, Flat, flat_of, tally}
 use Rattle.store.specs.Image.{head_words, words_of, Shows, Writes}
 use Rattle.store.specs.Shown.{limit_at, places_at, rows_at, conns_at, held_places_at, limit_in, places_in, Sizes, Sized, Light, Shown}
-use Rattle.store.specs.Parts.{PartOf, Part, Region, Framed, PartLaws}
+use Rattle.store.specs.Parts.{PartOf, Part, Region, Framed, PartLaws, in_use, room_in}
 
 -- ---- the whole, with counts that need not be those of the lists
 
@@ -105,7 +105,7 @@ module _ {A : Type 0} {k : ℕ} {p : Part A} {enc : A → List ℕ} {count : ℕ
     in_before : count < length r.before
     in_before = omega (arith, laws.in_head, laws.behind_head L Q, r.long)
 
-    pub part-counts : get_or (words b) count 0 ≡ length (p.list f)
+    pub part-counts : in_use b count ≡ length (p.list f)
     part-counts = ap (λ (w : List ℕ). get_or w count 0) (h.words_are ∙ r.words_are) ∙ get_or_append_left r.before _ 0 count in_before ∙ r.counts
 
     module _ {from to : ℕ} (q : Region k p b from to) where
@@ -137,8 +137,10 @@ module _ {A : Type 0} {k : ℕ} {p : Part A} {enc : A → List ℕ} {count : ℕ
       }
 
   -- a part has room for the records in use
-  pub part-few : {b : List ℕ} → Shown b → get_or (words b) count 0 ≤ p.room (limit_in b) (places_in b)
-  part-few s = rw (s.sizes.limit, s.sizes.places, part-counts s.shows) (laws.few s.flat s.sized)
+  pub part-few : {b : List ℕ} → Shown b → in_use b count ≤ room_in b p
+  part-few {b} s =
+      let h : get_or (words b) count 0 ≤ p.room (limit_in b) (places_in b) = rw (s.sizes.limit, s.sizes.places, part-counts s.shows) (laws.few s.flat s.sized) in
+      h
 
 -- n records lie within a part that has room for them
 pub room_for : {b : List ℕ} {a : ℕ} (k m n : ℕ) {from to : ℕ} → PartOf b a (a + m * k) from to → n ≤ m → 8 * (k * n) ≤ length (lent b from to)

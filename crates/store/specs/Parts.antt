@@ -1,5 +1,6 @@
 -- Where in the bytes of a store its rows, connections and places lie.
 use Rattle.std.specs.Prelude.{ℕ, ◌+◌, ◌*◌, ◌≤◌, ◌<◌, ◌≡◌, List, ◌++◌, length, get_or, set}
+use Rattle.words.specs.Words.{words}
 use Rattle.regions.specs.declared.Row.{Row}
 use Rattle.regions.specs.declared.Conn.{Conn}
 use Rattle.regions.specs.Regions.{each, padded}
@@ -37,6 +38,10 @@ PlacesPart b = PartOf b (places_from b) (places_to b)
 
 -- ---- a part as a list of records
 
+-- how many records of a part are in use: the word of the header that counts them
+abbrev pub in_use : List ℕ → ℕ → ℕ
+in_use b count = get_or (words b) count 0
+
 -- which list of a flat state it is and, by L and Q, behind how many words it stands and how many records it has room for
 pub record Part (A : Type 0) : Type 1 where
   pub list : Flat → List A
@@ -52,6 +57,10 @@ conns_are = record { list = λ f. f.conns; changed = with_conns; first = λ L Q.
 
 abbrev pub places_are : Part Place
 places_are = record { list = λ f. f.places; changed = with_places; first = λ L Q. head_size + L * row_size + L * conn_size; room = λ L Q. Q }
+
+-- how many it has room for
+abbrev pub room_in : {A : Type 0} → List ℕ → Part A → ℕ
+room_in b p = p.room (limit_in b) (places_in b)
 
 module _ {A : Type 0} (k : ℕ) (p : Part A) where
   -- the bytes from .. to are those of a part whose records have k words

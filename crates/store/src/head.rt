@@ -68,7 +68,7 @@ pub fn fill(s: &mut [u8], l: usize, q: usize)
     requires { (l ≤ max_announcements) × (q ≤ max_places) × (length s.old ≡ need l q) }
     ensures { Writes s.new (empty l q) }
 {
-    words::clear(s, 0, s.len() / 8);
+    words::clear(s, 0, s.len() / layout::WORD_BYTES);
     words::put(s, layout::FORMAT, layout::FORMAT_NUMBER);
     words::put(s, layout::LIMIT, l as u64);
     words::put(s, layout::PLACES, q as u64);

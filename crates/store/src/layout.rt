@@ -9,6 +9,9 @@ use places::PLACE;
 use regions::{CONN, ROW};
 use std::ops::Range;
 
+// Bytes of a word.
+pub const WORD_BYTES: usize = 8;
+
 // Words of the header: the format; L and Q; how many rows, connections and places are in use; next poll, in two words, and the cursors, in five each.
 pub const FORMAT: usize = 0;
 
@@ -37,8 +40,8 @@ pub fn rows_part(s: &[u8]) -> Range<usize>
     ensures { RowsPart s.now result.start result.end }
 {
     let l = head::limit(s);
-    let from = head::HEAD * 8;
-    let to = (head::HEAD + l * ROW) * 8;
+    let from = head::HEAD * WORD_BYTES;
+    let to = (head::HEAD + l * ROW) * WORD_BYTES;
     from..to
 }
 
@@ -48,8 +51,8 @@ pub fn conns_part(s: &[u8]) -> Range<usize>
     ensures { ConnsPart s.now result.start result.end }
 {
     let l = head::limit(s);
-    let from = (head::HEAD + l * ROW) * 8;
-    let to = (head::HEAD + l * ROW + l * CONN) * 8;
+    let from = (head::HEAD + l * ROW) * WORD_BYTES;
+    let to = (head::HEAD + l * ROW + l * CONN) * WORD_BYTES;
     from..to
 }
 
@@ -60,7 +63,7 @@ pub fn places_part(s: &[u8]) -> Range<usize>
 {
     let l = head::limit(s);
     let q = head::places(s);
-    let from = (head::HEAD + l * ROW + l * CONN) * 8;
-    let to = (head::HEAD + l * ROW + l * CONN + q * PLACE) * 8;
+    let from = (head::HEAD + l * ROW + l * CONN) * WORD_BYTES;
+    let to = (head::HEAD + l * ROW + l * CONN + q * PLACE) * WORD_BYTES;
     from..to
 }

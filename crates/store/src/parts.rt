@@ -1,11 +1,10 @@
 // Rows and connections: the records of a part of a store, read, replaced, put in, taken out. (Places are no `Part`: they are not read and written whole.)
 ghost use Rattle.std.specs.Prelude.{◌≡◌, ℕ, ◌≤◌, ◌<◌, get_or, set};
-ghost use Rattle.words.specs.Words.{words};
 ghost use Rattle.regions.specs.Regions.{insert_at, remove_at};
 ghost use Rattle.store.specs.Flat.{Flat};
 ghost use Rattle.store.specs.Image.{Shows};
-ghost use Rattle.store.specs.Shown.{limit_in, places_in, rows_at, conns_at, Shown, Turns};
-ghost use Rattle.store.specs.Parts.{Part as Shape, Region, PartLaws, rows_are, conns_are};
+ghost use Rattle.store.specs.Shown.{rows_at, conns_at, Shown, Turns};
+ghost use Rattle.store.specs.Parts.{Part as Shape, Region, PartLaws, in_use, room_in, rows_are, conns_are};
 ghost use Rattle.store.specs.PartLaws.{row_laws, conn_laws};
 
 use crate::layout;
@@ -55,17 +54,17 @@ impl Part for Conn {
     ghost laws = { conn_laws };
 }
 
-// How many records of the part are in use.
+// How many of its records are in use.
 fn count<R: Part>(s: &[u8]) -> usize
     requires { Shown s.now }
-    ensures { result ≡ get_or (words s.now) R.COUNT 0 }
+    ensures { result ≡ in_use s.now R.COUNT }
 {
     words::get(s, R::COUNT) as usize
 }
 
 // The i-th record.
 pub fn at<R: Part>(s: &[u8], i: usize) -> R
-    requires { Shown s.now × (i < get_or (words s.now) R.COUNT 0) }
+    requires { Shown s.now × (i < in_use s.now R.COUNT) }
     ensures { (f : Flat) (d : R) → Shows s.now f → result ≡ get_or (R.shape.list f) i d }
 {
     regions::read(&s[R::bytes(s)], i)
@@ -73,7 +72,7 @@ pub fn at<R: Part>(s: &[u8], i: usize) -> R
 
 // Stores r as the i-th record.
 pub fn set<R: Part>(s: &mut [u8], i: usize, r: R)
-    requires { Shown s.old × (i < get_or (words s.old) R.COUNT 0) }
+    requires { Shown s.old × (i < in_use s.old R.COUNT) }
     ensures { Turns s.old s.new (λ f. R.shape.changed (set (R.shape.list f) i r) f) }
 {
     let part = R::bytes(s);
@@ -82,7 +81,7 @@ pub fn set<R: Part>(s: &mut [u8], i: usize, r: R)
 
 // Puts r in as the i-th record.
 pub fn add<R: Part>(s: &mut [u8], i: usize, r: R)
-    requires { Shown s.old × (i ≤ get_or (words s.old) R.COUNT 0) × (get_or (words s.old) R.COUNT 0 < R.shape.room (limit_in s.old) (places_in s.old)) }
+    requires { Shown s.old × (i ≤ in_use s.old R.COUNT) × (in_use s.old R.COUNT < room_in s.old R.shape) }
     ensures { Turns s.old s.new (λ f. R.shape.changed (insert_at i r (R.shape.list f)) f) }
 {
     let n = count::<R>(s);
@@ -93,7 +92,7 @@ pub fn add<R: Part>(s: &mut [u8], i: usize, r: R)
 
 // Takes the i-th record out.
 pub fn drop<R: Part>(s: &mut [u8], i: usize)
-    requires { Shown s.old × (i < get_or (words s.old) R.COUNT 0) }
+    requires { Shown s.old × (i < in_use s.old R.COUNT) }
     ensures { Turns s.old s.new (λ f. R.shape.changed (remove_at i (R.shape.list f)) f) }
 {
     let n = count::<R>(s);

@@ -1,6 +1,5 @@
 use native.Mathlib.Omega.{arith}
-use Prim.Native.Nat.{◌-◌}
-use mathlib.Core.Path.{refl}
+use mathlib.Core.Path.{refl, ◌∙◌}
 use Rattle.ident.specs.Words.{key_num}
 use Rattle.store.specs.Flat.{flat_of}
 use Rattle.store.proofs.Frame.{sizes}
@@ -16,9 +15,9 @@ loop-i-init c = let kept = c.requires in
     let key = c.from-key.ensures in
     let n = window-size k st.table (from_at st kept.sound k key.small key.number (c.window_of-w.ensures.from_is st kept.sound kept.writes))
     (to_at st kept.sound k key.small key.number (c.window_of-w.ensures.to_is st kept.sound kept.writes)) in (
-      copied_none c.args.s.now c.window_of-w.result.from (c.window_of-w.result.to - c.window_of-w.result.from)
+      copied_none c.args.s.now c.window_of-w.result.from c.len-n.result
           c.args.conns.now,
-      omega (arith, n, few_candidates st kept.sound k key.small),
+      omega (arith, n, c.len-n.ensures, few_candidates st kept.sound k key.small),
     )
 
 pub loop-i-preserved : goal.loop-i-preserved
@@ -28,6 +27,7 @@ loop-i-preserved c = (
         arith,
         c.window_of-w.ensures.most,
         c.window_of-w.ensures.order,
+        c.len-n.ensures,
         (sizes h).rows,
       )) (λ f d h. c.row_at-r.ensures f d h),
   c.loop-i.invariant.1,
@@ -41,5 +41,5 @@ returns c = (
       let key = c.from-key.ensures in
       let from = from_at st s k key.small key.number (c.window_of-w.ensures.from_is st s w) in
       let n = window-size k st.table from (to_at st s k key.small key.number (c.window_of-w.ensures.to_is st s w)) in
-      copied_all st s k c.loop-i.invariant.0 c.loop-i-test.false (flat_of st) refl w from n,
+      copied_all st s k c.loop-i.invariant.0 c.loop-i-test.false (flat_of st) refl w from (c.len-n.ensures ∙ n),
 )

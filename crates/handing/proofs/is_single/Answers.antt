@@ -11,4 +11,4 @@ returns c = λ e st s w.
     let key = c.from-key.ensures in
     let from = from_at st s k key.small key.number (c.window_of-w.ensures.from_is st s w) in
     let to = to_at st s k key.small key.number (c.window_of-w.ensures.to_is st s w) in
-    sym (window-size k st.table from to) ∙ eqb-true _ 1 e
+    sym (c.len.ensures ∙ window-size k st.table from to) ∙ eqb-true _ 1 e
