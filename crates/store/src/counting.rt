@@ -59,7 +59,7 @@ pub fn adjust<F: FnOnce(regions::Conn) -> Option<regions::Conn>>(s: &mut [u8], x
     }
 }
 
-// One row less of the connection x, whose bit of owning was o. (A number, here and below: the contract speaks of any o, which a `bool` would not take.)
+// One row less of the connection x, whose bit of owning was o. (A number, here and below: the contract speaks of any o, where a `bool` would take 0 and 1 alone; p is what it becomes.)
 pub fn count_out(s: &mut [u8], x: u64, o: u64)
     requires { Shown s.old }
     ensures { Tallies s.old s.new (unbump x o) }

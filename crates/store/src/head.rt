@@ -10,7 +10,7 @@ ghost use Rattle.store.specs.Shown.{limit_at, places_at, rows_at, conns_at, held
 use crate::layout;
 use machine::limits::MAX_ALTERNATES;
 
-// (A function for each count: the contract says which list of a flat state it counts, so that one for all would say word and list at each call.)
+// (A function for each count, of one `get`. One over `parts::Part` would name its type at each call, and would not be of L, Q and the places.)
 
 // Words of the header.
 pub const HEAD: usize = 24;

@@ -1,4 +1,4 @@
-// The package places: opened, read, changed, closed, searched.
+// The package places: opened, read, changed, closed. (No `parts::Part`, whose records are read and written whole: the code has no value of a whole place.)
 ghost use Rattle.std.specs.Prelude.{◌≡◌, ℕ, ◌+◌, ◌≤◌, ◌<◌, length, get_or, set};
 ghost use Rattle.regions.specs.Regions.{insert_at, remove_at};
 ghost use Rattle.regions.specs.Rows.{quad_number};

@@ -27,7 +27,7 @@ impl Window {
     }
 }
 
-// The i-th row.
+// The i-th row: `parts::at` by a name of its own, since most crates read rows and nothing else of a part.
 pub fn row_at(s: &[u8], i: usize) -> regions::Row
     requires { Shown s.now × (i < rows_in s.now) }
     ensures { (f : Flat) (d : Row) → Shows s.now f → result ≡ get_or f.rows i d }

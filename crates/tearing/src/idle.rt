@@ -9,7 +9,7 @@ ghost use Rattle.tearing.specs.Idle.{busy, ebb, ebbed};
 
 use store::layout;
 
-// One row less of the connection x, whose bit of owning was o. Its entry stays. (A number: the contract speaks of any o, which a `bool` would not take.)
+// One row less of the connection x, whose bit of owning was o. Its entry stays. (A number: the contract speaks of any o, where a `bool` would take 0 and 1 alone.)
 pub fn count_off(s: &mut [u8], x: u64, o: u64)
     requires { Shown s.old }
     ensures { Tallies s.old s.new (ebbed x o) }
