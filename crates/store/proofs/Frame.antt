@@ -21,7 +21,7 @@ use Rattle.machine.specs.Typed.{Each}
 use Rattle.store.specs.Flat.{Head, Flat, flat_of, tally}
 use Rattle.store.specs.Image.{head_words, words_of, Shows, Writes}
 use Rattle.store.specs.Shown.{limit_at, places_at, rows_at, conns_at, held_places_at, limit_in, places_in, Sizes, Sized, Light, Shown}
-use Rattle.store.specs.Parts.{PartOf, Part, Region, Framed, PartLaws, in_use, room_in}
+use Rattle.store.specs.Parts.{PartOf, Shape, Region, Framed, PartLaws, in_use, room_in}
 
 -- ---- the whole, with counts that need not be those of the lists
 
@@ -87,7 +87,7 @@ module _ {b : List ℕ} {f : Flat} (h : Shows b f) where
 
 -- ---- a part that is lent and comes back
 
-module _ {A : Type 0} {k : ℕ} {p : Part A} {enc : A → List ℕ} {count : ℕ} (laws : PartLaws k p enc count) where
+module _ {A : Type 0} {k : ℕ} {p : Shape A} {enc : A → List ℕ} {count : ℕ} (laws : PartLaws k p enc count) where
   module _ {b : List ℕ} {f : Flat} (h : Shows b f) where
     abbrev pub r : Framed k p enc count f
     r = laws.framed f

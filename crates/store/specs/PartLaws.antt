@@ -14,7 +14,7 @@ use Rattle.places.specs.Places.{place_size, place_words}
 use Rattle.store.specs.Flat.{Head, Flat}
 use Rattle.store.specs.Image.{head_size, head_words, poll_words, cursor_words, words_of}
 use Rattle.store.specs.Shown.{rows_at, conns_at, held_places_at}
-use Rattle.store.specs.Parts.{rows_are, conns_are, places_are, Framed, PartLaws}
+use Rattle.store.specs.Parts.{row_shape, conn_shape, place_shape, Framed, PartLaws}
 
 -- ---- the header has 24 words
 
@@ -60,11 +60,11 @@ module _ (f : Flat) where
   abbrev places : List ℕ
   places = padded (place_size * f.head.places) (each place_words f.places)
 
-  rows_framed : Framed row_size rows_are row_words rows_at f
+  rows_framed : Framed row_size row_shape row_words rows_at f
   unfolding words_of head_words
   rows_framed = record { before = head; behind = conns ++ places; long = head_long; counts = refl; words_are = refl; changed_are = λ xs. refl; head_stays = λ xs. refl }
 
-  conns_framed : Framed conn_size conns_are conn_words conns_at f
+  conns_framed : Framed conn_size conn_shape conn_words conns_at f
   unfolding words_of head_words
   conns_framed = record {
     before = head ++ rows;
@@ -76,7 +76,7 @@ module _ (f : Flat) where
     head_stays = λ xs. refl;
   }
 
-  places_framed : Framed place_size places_are place_words held_places_at f
+  places_framed : Framed place_size place_shape place_words held_places_at f
   unfolding words_of head_words
   places_framed = record {
     before = head ++ (rows ++ conns);
@@ -88,11 +88,11 @@ module _ (f : Flat) where
     head_stays = λ xs. refl;
   }
 
-pub row_laws : PartLaws row_size rows_are row_words rows_at
+pub row_laws : PartLaws row_size row_shape row_words rows_at
 row_laws = record { in_head = lit< tt; behind_head = λ L Q. omega arith; few = λ f s. s.rows_few; framed = rows_framed }
 
-pub conn_laws : PartLaws conn_size conns_are conn_words conns_at
+pub conn_laws : PartLaws conn_size conn_shape conn_words conns_at
 conn_laws = record { in_head = lit< tt; behind_head = λ L Q. omega arith; few = λ f s. s.conns_few; framed = conns_framed }
 
-pub place_laws : PartLaws place_size places_are place_words held_places_at
+pub place_laws : PartLaws place_size place_shape place_words held_places_at
 place_laws = record { in_head = lit< tt; behind_head = λ L Q. omega arith; few = λ f s. s.places_few; framed = places_framed }

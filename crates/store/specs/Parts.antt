@@ -43,26 +43,26 @@ abbrev pub in_use : List ℕ → ℕ → ℕ
 in_use b count = get_or (words b) count 0
 
 -- which list of a flat state it is and, by L and Q, behind how many words it stands and how many records it has room for
-pub record Part (A : Type 0) : Type 1 where
+pub record Shape (A : Type 0) : Type 1 where
   pub list : Flat → List A
   pub changed : List A → Flat → Flat
   pub first : ℕ → ℕ → ℕ
   pub room : ℕ → ℕ → ℕ
 
-abbrev pub rows_are : Part Row
-rows_are = record { list = λ f. f.rows; changed = with_rows; first = λ L Q. head_size; room = λ L Q. L }
+abbrev pub row_shape : Shape Row
+row_shape = record { list = λ f. f.rows; changed = with_rows; first = λ L Q. head_size; room = λ L Q. L }
 
-abbrev pub conns_are : Part Conn
-conns_are = record { list = λ f. f.conns; changed = with_conns; first = λ L Q. head_size + L * row_size; room = λ L Q. L }
+abbrev pub conn_shape : Shape Conn
+conn_shape = record { list = λ f. f.conns; changed = with_conns; first = λ L Q. head_size + L * row_size; room = λ L Q. L }
 
-abbrev pub places_are : Part Place
-places_are = record { list = λ f. f.places; changed = with_places; first = λ L Q. head_size + L * row_size + L * conn_size; room = λ L Q. Q }
+abbrev pub place_shape : Shape Place
+place_shape = record { list = λ f. f.places; changed = with_places; first = λ L Q. head_size + L * row_size + L * conn_size; room = λ L Q. Q }
 
 -- how many it has room for
-abbrev pub room_in : {A : Type 0} → List ℕ → Part A → ℕ
+abbrev pub room_in : {A : Type 0} → List ℕ → Shape A → ℕ
 room_in b p = p.room (limit_in b) (places_in b)
 
-module _ {A : Type 0} (k : ℕ) (p : Part A) where
+module _ {A : Type 0} (k : ℕ) (p : Shape A) where
   -- the bytes from .. to are those of a part whose records have k words
   abbrev pub Region : List ℕ → ℕ → ℕ → Type 0
   Region b = PartOf b (p.first (limit_in b) (places_in b)) (p.first (limit_in b) (places_in b) + p.room (limit_in b) (places_in b) * k)

@@ -4,7 +4,7 @@ ghost use Rattle.regions.specs.Regions.{insert_at, remove_at};
 ghost use Rattle.store.specs.Flat.{Flat};
 ghost use Rattle.store.specs.Image.{Shows};
 ghost use Rattle.store.specs.Shown.{rows_at, conns_at, Shown, Turns};
-ghost use Rattle.store.specs.Parts.{Part as Shape, Region, PartLaws, in_use, room_in, rows_are, conns_are};
+ghost use Rattle.store.specs.Parts.{Shape, Region, PartLaws, in_use, room_in, row_shape, conn_shape};
 ghost use Rattle.store.specs.PartLaws.{row_laws, conn_laws};
 
 use crate::layout;
@@ -31,7 +31,7 @@ impl Part for Row {
 
     ghost COUNT = { rows_at };
 
-    ghost shape = { rows_are };
+    ghost shape = { row_shape };
 
     fn bytes(s: &[u8]) -> Range<usize> {
         layout::rows_part(s)
@@ -45,7 +45,7 @@ impl Part for Conn {
 
     ghost COUNT = { conns_at };
 
-    ghost shape = { conns_are };
+    ghost shape = { conn_shape };
 
     fn bytes(s: &[u8]) -> Range<usize> {
         layout::conns_part(s)
