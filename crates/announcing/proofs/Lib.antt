@@ -11,6 +11,7 @@ pub mod Heads
 pub mod Falling
 pub mod Ranking
 pub mod Giving
+mod Pairs
 pub mod Swapping
 pub mod Nobody
 pub mod Precedence

@@ -1,52 +1,26 @@
 -- A scan of rows for the greatest victim: what each test shows, and what one row more does.
-use Prim.Native.Nat.{ℕ, suc, ◌+◌, ◌-◌, ◌%◌, ◌≤◌, ◌<◌}
+use Prim.Native.Nat.{ℕ, suc, ◌+◌, ◌-◌, ◌≤◌, ◌<◌}
 use mathlib.Core.Path.{◌≡◌, refl, sym, ap, ◌∙◌}
 use mathlib.Core.Bool.{Bool, true, false, ◌||◌}
 use mathlib.Core.List.{List}
 use mathlib.Core.Option.{Option, none, some}
 use native.Mathlib.Omega.{arith}
-use lib.Dec.{ltb}
 use lib.ListN.{length, get_or}
 use lib.Seq.{drop-cons}
 use borrow.Author.Tests.{lt-ltb, le-ltb, ltb-true}
-use Rattle.ident.specs.declared.Kind.{Kind}
 use Rattle.std.specs.Prelude as std
 use Rattle.std.specs.Prelude.{if◌then◌else◌, Some, None, is_some}
-use Rattle.ident.specs.Number.{Key, place}
+use Rattle.ident.specs.Number.{Key}
 use Rattle.regions.specs.declared.Row.{Row}
 use Rattle.regions.specs.declared.Key.{Key as RowKey}
-use Rattle.regions.specs.Rows.{quad_number, key_number, key_of}
+use Rattle.regions.specs.Rows.{quad_number, key_of}
 use Rattle.machine.specs.State.{Entry}
 use Rattle.machine.specs.Announce.{after}
 use Rattle.machine.proofs.Tests.{by_test, never, or_left}
 use Rattle.store.specs.Gather.{key_at, candidate_at}
-use Rattle.store.proofs.Keys.{row_number}
 use Rattle.announcing.specs.Evicts.{entry_at, found, is_lower, key_after, protected, greater, or_row, greatest_over, part}
 
 -- ---- which of two rows comes after the other
-
-module _ (a b : Row) {x y : RowKey} (ex : x ≡ key_of a) (ey : y ≡ key_of b) {p : Bool} (up : p ≡ ltb (key_number y) (key_number x)) where
-  higher : p ≡ ltb (place (key_at b)) (place (key_at a))
-  higher = up ∙ rw (ex, ey, row_number a, row_number b)
-
-  pub key_higher : p ≡ true → true ≡ key_after a b
-  key_higher e = let z : ltb (place (key_at b)) (place (key_at a)) ≡ true = sym higher ∙ e in rw z
-
-  module _ (e : p ≡ false) {q : Bool} (down : q ≡ ltb (key_number x) (key_number y)) where
-    lower : q ≡ ltb (place (key_at a)) (place (key_at b))
-    lower = down ∙ rw (ex, ey, row_number a, row_number b)
-
-    pub key-lower : q ≡ true → false ≡ key_after a b
-    key-lower d =
-        let z : ltb (place (key_at b)) (place (key_at a)) ≡ false = sym higher ∙ e in
-        let w : ltb (place (key_at a)) (place (key_at b)) ≡ true = sym lower ∙ d in
-        rw (z, w)
-
-    pub key_same : q ≡ false → ltb b.conn a.conn ≡ key_after a b
-    key_same d =
-        let z : ltb (place (key_at b)) (place (key_at a)) ≡ false = sym higher ∙ e in
-        let w : ltb (place (key_at a)) (place (key_at b)) ≡ false = sym lower ∙ d in
-        rw (z, w)
 
 module _ (a b : Row) where
   pub prio_higher : b.prio < a.prio → true ≡ after (entry_at a) (entry_at b)

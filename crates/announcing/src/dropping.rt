@@ -1,5 +1,5 @@
-// Rows that pass a test taken out in one pass: one that stays moves up behind those that stay before it.
-// (A step of such a pass: no `keep::retain`, since a row that goes is counted off in the same store, which a closure over its bytes cannot change.)
+// A step of a pass that takes rows out of the store: one that stays moves up behind those that stay before it.
+// (No `keep::retain`, since a row that goes is counted off in the same store, which a closure over its bytes cannot change.)
 ghost use Rattle.std.specs.Prelude.{◌≡◌, ◌≤◌, ◌<◌, get_or, set};
 ghost use Rattle.regions.specs.declared.Row.{Row};
 ghost use Rattle.store.specs.Flat.{Flat};

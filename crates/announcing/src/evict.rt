@@ -13,11 +13,12 @@ ghost use Rattle.announcing.specs.Evicts.{entry_at, found, is_lower, key_after, 
 
 use store::rows::Window;
 
-// Whether a row's candidate is preferred, or owns its request. (`|` has no branch.)
-pub fn stays(r: regions::Row) -> bool
-    ensures { result ≡ protected r.bits }
+// Whether a row's bits say that its candidate is preferred, or owns its request. (Of the bits, of which any may be given: a row's methods would ask for
+// the row. `|` has no branch.)
+pub fn stays(bits: u64) -> bool
+    ensures { result ≡ protected bits }
 {
-    r.is_preferred() | r.owns()
+    (bits / 4 % 2 == 1) | (bits / 8 % 2 == 1)
 }
 
 // Whether a row's bits or its priority alone tell that it is not greater than what has been found. Most rows of a scan end here, in one
@@ -25,23 +26,14 @@ pub fn stays(r: regions::Row) -> bool
 fn passed(best: Option<regions::Row>, r: regions::Row) -> bool
     ensures { result ≡ (protected r.bits || is_lower r best) }
 {
-    stays(r) | best.is_some_and(|row| r.prio < row.prio)
+    stays(r.bits) | best.is_some_and(|row| r.prio < row.prio)
 }
 
-// Whether a comes after b by key and connection. (By `key_less`, whose clause is of the keys' numbers, as this one's: a tuple's `<` would need the law of the keys' derived
-// order here.)
+// Whether a comes after b by key and connection.
 fn key_after(a: regions::Row, b: regions::Row) -> bool
     ensures { result ≡ key_after a b }
 {
-    let x = regions::Key::from(a);
-    let y = regions::Key::from(b);
-    if regions::key_less(y, x) {
-        return true;
-    }
-    if regions::key_less(x, y) {
-        return false;
-    }
-    b.conn < a.conn
+    (regions::Key::from(b), b.conn) < (regions::Key::from(a), a.conn)
 }
 
 // Whether a comes after b by (priority, key, connection). (No derived order: in the store rows are in another, that of their keys. A type for
@@ -65,15 +57,13 @@ fn greater(best: Option<regions::Row>, r: regions::Row) -> Option<regions::Row>
     if passed(best, r) {
         return best;
     }
-    if let Some(row) = best {
-        if !after(r, row) {
-            return best;
-        }
+    if best.is_some_and(|row| !after(r, row)) {
+        return best;
     }
     Some(r)
 }
 
-// The greatest of what has been found and of the rows of a window. (A fold: its contract is that of the rows one by one.)
+// The greatest of what has been found and of the rows of a window.
 fn greatest_in(s: &[u8], w: Window, best: Option<regions::Row>) -> Option<regions::Row>
     requires { Shown s.now × (w.to ≤ rows_in s.now) }
     ensures { (f : Flat) → Shows s.now f → found result ≡ greatest_over (found best) (part w.from w.to f.rows) }
@@ -117,26 +107,21 @@ pub fn victim_anywhere(s: &[u8]) -> Option<regions::Row>
     greatest_in(s, all, None)
 }
 
-// How many candidates of the table can be evicted. (A sum by the index: for `filter` and `count` what a turn adds would be a closure with a contract.)
+// How many candidates of the table can be evicted.
 #[tactic(auto, using(crate::proofs::Lent::kept_long, requests::proofs::Keeping::kept_shown))]
 pub fn evictable(s: &[u8]) -> u64
     requires { Kept s.now }
     ensures { Tells s.now (λ t. result ≡ wrapper.evictable t) }
 {
     let n = store::head::rows(s);
-    let mut m = 0;
-    for i in 0..n {
-        let r = store::rows::row_at(s, i);
-        if !stays(r) {
-            m += 1;
-        }
-    }
-    m
+    (0..n)
+        .filter(|&i| !stays(store::rows::row_at(s, i).bits))
+        .count() as u64
 }
 
 // ---- the victim's key
 
-// The key of a row's request. (No `From` beside the others in `regions`: this clause is of the machine's key, which `store` defines above it.)
+// The key of a row's request. (A name for the conversions of `regions`: their clauses are of its kind and its hash, this one is of the machine's key, as `store` has it.)
 pub fn key_of(r: regions::Row) -> ident::Key
     ensures { key_num result ≡ key_at r }
 {

@@ -5,10 +5,10 @@
 ghost use Rattle.std.specs.Prelude.{◌≡◌, ◌+◌, ◌*◌, ◌≤◌, ◌∷◌, length, get_or};
 ghost use Rattle.ident.specs.Words.{maybe_key_num};
 ghost use Rattle.words.specs.Words.{words, splice};
-ghost use Rattle.regions.specs.Rows.{quad_words};
+ghost use Rattle.regions.specs.Rows.{quad_words, quad_number};
 ghost use Rattle.machine.specs.Wrapper.{due_at, next_poll_after};
 ghost use Rattle.store.specs.Image.{head_size, poll_words, cursor_words};
-ghost use Rattle.store.specs.Read.{poll_is};
+ghost use Rattle.store.specs.Read.{poll_is, cursor_is};
 ghost use Rattle.cursors.specs.Numbers.{time_num, numbers_of, with_known, gate_at, Loads, Saves, Gated, KnownMoved};
 ghost use Rattle.cursors.specs.InWords.{poll_at, known_at, ready_at, TagSays, cursor_in, written, ReadyMoved};
 
@@ -55,18 +55,25 @@ fn kind_in(tag: u64) -> Option<ident::Kind>
     }
 }
 
+// The cursor that a tag and a hash say, whatever they are.
+pub fn cursor_of(tag: u64, hash: regions::Quad) -> Option<ident::Key>
+    ensures { maybe_key_num result ≡ cursor_is tag (quad_number hash) }
+{
+    let kind = kind_in(tag)?;
+    let hash = ident::Hash::from(hash);
+    Some(ident::Key { kind, hash })
+}
+
 // The cursor whose words stand from word a on.
 pub fn cursor_at(s: &[u8], a: usize) -> Option<ident::Key>
     requires { 8 * (a + 5) ≤ length s.now }
     ensures { maybe_key_num result ≡ cursor_in (words s.now) a }
 {
-    let kind = kind_in(words::get(s, a))?;
-    let hash = ident::Hash::from(regions::read_quad(s, a + 1));
-    Some(ident::Key { kind, hash })
+    cursor_of(words::get(s, a), regions::read_quad(s, a + 1))
 }
 
 // The tag and the hash of a cursor.
-fn words_of(c: Option<ident::Key>) -> (u64, regions::Quad)
+pub fn words_of(c: Option<ident::Key>) -> (u64, regions::Quad)
     ensures { result.0 ∷ quad_words result.1 ≡ cursor_words (maybe_key_num c) }
 {
     let Some(k) = c else {

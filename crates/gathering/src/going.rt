@@ -13,7 +13,7 @@ use store::rows::Window;
 fn goes(v: regions::Row, r: regions::Row) -> bool
     ensures { result ≡ goes_by v r }
 {
-    let stays = announcing::evict::stays(r);
+    let stays = announcing::evict::stays(r.bits);
     let after = announcing::evict::after(v, r);
     !stays & !after
 }

@@ -148,9 +148,7 @@ fn stage_at(s: &[u8], k: ident::Key) -> Option<Stage>
     match k.kind {
         ident::Kind::Txid => None,
         ident::Kind::Wtxid => {
-            let Ok(i) = seek(s, k.hash) else {
-                return None;
-            };
+            let i = seek(s, k.hash).ok()?;
             stage_in(store::package_places::place_at(s, i).stage)
         }
     }
