@@ -11,6 +11,9 @@ use lib.Dec.{ltb}
 use lib.ListN.{length, get_or, length-map}
 use lib.Seq.{get_or_at}
 use borrow.Author.Tests.{ltb-true, ltb-false}
+use Rattle.std.specs.Prelude as rust
+use Rattle.std.specs.Prelude.{Result, Ok, Err, Some, None}
+use Rattle.std.specs.Result.{result_ok}
 use Rattle.ident.specs.declared.Hash.{Hash}
 use Rattle.ident.specs.declared.Kind.{Kind}
 use Rattle.ident.specs.declared.Kind.TheVariants.{Txid, Wtxid}
@@ -39,7 +42,7 @@ use Rattle.store.proofs.ToFlat.{flat_sound}
 use Rattle.store.proofs.Window.{places-sorted, places_from, place_found, place-missing}
 use Rattle.requests.specs.Changes.{Words}
 use Rattle.package_stages.specs.Records.{place_hashes}
-use Rattle.package_stages.specs.Changes.{stage_of, wtxids_of, combined_of, has_place, SpotOf}
+use Rattle.package_stages.specs.Changes.{stage_of, wtxids_of, combined_of, has_place, SpotOf, Sought}
 
 -- ---- a request and its place
 
@@ -222,3 +225,13 @@ module _ (st : State) (s : Sound st) (i : ℕ) (d : Place) (l : i < length (plac
       go p (suc (suc zero)) f = f.few_wtxids
       go p (suc (suc (suc zero))) f = f.few_wtxids
       go p (suc (suc (suc (suc n)))) f = absurd f
+
+-- ---- the place that a search gives, if it gives one
+
+abbrev pub PlaceIn : List ℕ → ℕ → rust.Option ℕ → Type 0
+PlaceIn b h None = (i : ℕ) × SpotOf b h i false
+PlaceIn b h (Some i) = SpotOf b h i true
+
+pub place_sought : (b : List ℕ) (h : ℕ) (r : Result ℕ ℕ) → Sought b h r → PlaceIn b h (result_ok r)
+place_sought b h (Ok i) e = e
+place_sought b h (Err i) e = (i, e)
