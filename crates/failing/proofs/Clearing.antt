@@ -1,12 +1,13 @@
 -- Owner, flag, package and parents of a request go: the place first, then the owner.
 use Prim.Native.Nat.{ℕ, ◌<◌}
 use mathlib.Core.Path.{◌≡◌, refl, sym, ap, subst, ◌∙◌}
-use mathlib.Core.Bool.{Bool, true, false}
+use mathlib.Core.Bool.{Bool, true, false, true≢false}
 use mathlib.Core.List.{List, []}
 use mathlib.Core.Option.{Option, none, some}
 use native.Mathlib.Omega.{arith}
 use Rattle.ident.specs.declared.Kind.{Kind}
 use Rattle.ident.specs.declared.Kind.TheVariants.{Txid, Wtxid}
+use Rattle.ident.specs.contracts.KindPartialEq.TheImpl.{eq-value as kind_eq}
 use Rattle.ident.specs.Number.{top, Key}
 use Rattle.machine.specs.State.{Owner, Package, Request, Table, State, on_table, unowned, owner_is}
 use Rattle.machine.specs.Table.{at, change}
@@ -45,6 +46,11 @@ closed-txid q o hs true (some p) e k = absurd k
 closed-txid q o hs true none e k = let z : Txid ≡ Wtxid = sym e ∙ k.1 in let y : ◌≡◌ {A = ℕ} 0 1 = cc in absurd (omega arith)
 closed-txid q o hs false (some p) e k = let z : Txid ≡ Wtxid = sym e ∙ k.1 in let y : ◌≡◌ {A = ℕ} 0 1 = cc in absurd (omega arith)
 closed-txid q o hs false none e k = closed_with q false none hs refl refl k
+
+-- the kind that is not Wtxid
+pub left_txid : (k : Kind) {b : Bool} → b ≡ kind_eq.it k Wtxid → b ≡ false → k ≡ Txid
+left_txid Txid e f = refl
+left_txid Wtxid e f = absurd (true≢false (sym e ∙ f))
 
 module _ (st : State) (s : Sound st) (k : Key) (small : k.hash < top) where
   pub nothing-closed : k.kind ≡ Txid → {b : List ℕ} → Writes b st → Writes b (on_table (change k closed st.table) st)

@@ -25,6 +25,7 @@ use Rattle.machine.proofs.Tests.{never}
 use Rattle.machine.proofs.Table.{lawful_at, at_key}
 use Rattle.package_stages.specs.Changes.{has_place, PlaceSpot, ReadAt}
 use Rattle.package_stages.proofs.Seeking.{holding}
+use Rattle.lent_lists.specs.Lists.{hashes_in}
 use Rattle.failing.specs.Changes.{first_hashes}
 
 -- ---- one hash more
@@ -89,16 +90,16 @@ copied_all {b} {i} {m} {u₀} {u} {j} c l count x y st s w p =
 
 -- ---- whose parents they are
 
-no-hashes : (u : List ℕ) → first_hashes 0 u ≡ []
-unfolding recs
-no-hashes u = refl
+pub no-hashes : hashes_in [] ≡ []
+unfolding hashes_in recs
+no-hashes = refl
 
-module _ (q : Request) (n : ℕ) (u : List ℕ) where
-  pub others-parents : false ≡ owner_is n q.owner → first_hashes 0 u ≡ parents_for n q
-  others-parents e = rw (sym e) (no-hashes u)
+module _ (q : Request) (n : ℕ) where
+  pub others-parents : false ≡ owner_is n q.owner → hashes_in [] ≡ parents_for n q
+  others-parents e = rw (sym e) no-hashes
 
-  pub placeless : has_place q ≡ false → first_hashes 0 u ≡ parents_for n q
-  placeless e = rw (e, and-false (owner_is n q.owner)) (no-hashes u)
+  pub placeless : has_place q ≡ false → hashes_in [] ≡ parents_for n q
+  placeless e = rw (e, and-false (owner_is n q.owner)) no-hashes
 
 module _ (st : State) (s : Sound st) (k : Key) (small : k.hash < top) (z : has_place (at k st.table) ≡ true) where
   key-is : wtxid k.hash ≡ k
@@ -109,6 +110,5 @@ module _ (st : State) (s : Sound st) (k : Key) (small : k.hash < top) (z : has_p
   pub must-hold : {i : ℕ} → PlaceSpot st.table k.hash i false → ⊥
   must-hold p = never (p.held_is ∙ ap (λ (j : Key). has_place (at j st.table)) key-is ∙ z)
 
-  pub its-parents : (n : ℕ) → true ≡ owner_is n (at k st.table).owner → (u : List ℕ) (m : ℕ) → first_hashes m u ≡ (at (wtxid k.hash) st.table).parents
-      → first_hashes m u ≡ parents_for n (at k st.table)
-  its-parents n e u m f = rw (sym e, z) (f ∙ ap (λ (j : Key). (at j st.table).parents) key-is)
+  pub its-parents : (n : ℕ) → true ≡ owner_is n (at k st.table).owner → {hs : List ℕ} → hs ≡ (at (wtxid k.hash) st.table).parents → hs ≡ parents_for n (at k st.table)
+  its-parents n e f = rw (sym e, z) (f ∙ ap (λ (j : Key). (at j st.table).parents) key-is)

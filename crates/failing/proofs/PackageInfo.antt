@@ -7,7 +7,9 @@ use mathlib.Core.Option.{Option, none, some}
 use native.Mathlib.Omega.{arith}
 use lib.Dec.{eqb}
 use borrow.Author.Tests.{ne_eqb, lt-ltb, le-ltb}
-use Rattle.std.specs.Option.{option_eq}
+use Rattle.std.specs.Bool.{then_some}
+use Rattle.std.specs.Option.{option_eq, MatchOption}
+use Rattle.std.specs.Prelude as rust
 use Rattle.std.specs.Prelude.{Some, None}
 use Rattle.ident.specs.declared.Kind.{Kind}
 use Rattle.ident.specs.Number.{Key}
@@ -67,11 +69,41 @@ module _ {q : Request} {r : Read} (l : Lawful q) (x : RequestOf q r) where
     pub asked-owner : true ≡ q.info → {o : OwnerRead} → r.owner ≡ Some o → v < o.deadline → o.connection ≡ info_owner_of v q.info q.owner
     asked-owner e {o} d h = rw (sym e, owner-some x d, lt-ltb v o.deadline h)
 
-    pub asked-late : true ≡ q.info → {o : OwnerRead} → r.owner ≡ Some o → o.deadline ≤ v → 0 ≡ info_owner_of v q.info q.owner
+    asked-late : true ≡ q.info → {o : OwnerRead} → r.owner ≡ Some o → o.deadline ≤ v → 0 ≡ info_owner_of v q.info q.owner
     asked-late e {o} d h = rw (sym e, owner-some x d, le-ltb v o.deadline h)
 
-    pub asked-nobody : true ≡ q.info → r.owner ≡ None → 0 ≡ info_owner_of v q.info q.owner
+    asked-nobody : true ≡ q.info → r.owner ≡ None → 0 ≡ info_owner_of v q.info q.owner
     asked-nobody e d = rw (sym e, owner-none x d)
+
+    pub asked-none : true ≡ q.info → MatchOption r.owner (Unit {0}) (λ o. o.deadline ≤ v) → 0 ≡ info_owner_of v q.info q.owner
+    asked-none e m = go r.owner refl m
+      where
+        go : (o : rust.Option OwnerRead) → r.owner ≡ o → MatchOption o (Unit {0}) (λ o. o.deadline ≤ v) → 0 ≡ info_owner_of v q.info q.owner
+        go None d m = asked-nobody e d
+        go (Some o) d m = asked-late e d m
+
+-- ---- what a filter keeps, if the test tells Yes or No
+
+module _ {X : Type 0} (P : X → Bool → Type 0) where
+  sieved : (o r : rust.Option X) → MatchOption o (r ≡ None) (λ x. (b : Bool) × P x b × (r ≡ then_some b x))
+      → MatchOption r (MatchOption o (Unit {0}) (λ x. P x false)) (λ x. (o ≡ Some x) × P x true)
+  sieved None r e = rw e tt
+  sieved (Some x) r (true, p, e) = rw e (refl, p)
+  sieved (Some x) r (false, p, e) = rw e p
+
+  pub kept_some : (Yes : X → Type 0) (o r : rust.Option X) → MatchOption o (r ≡ None) (λ x. (b : Bool) × P x b × (r ≡ then_some b x)) → {x : X} → r ≡ Some x
+      → ((x : X) → P x true → Yes x) → (o ≡ Some x) × Yes x
+  kept_some Yes o r m {x} e f =
+      let z = subst (λ z. MatchOption z (MatchOption o (Unit {0}) (λ x. P x false)) (λ x. (o ≡ Some x) × P x true)) e (sieved o r m) in
+      (z.0, f x z.1)
+
+  pub kept_none : (No : X → Type 0) (o r : rust.Option X) → MatchOption o (r ≡ None) (λ x. (b : Bool) × P x b × (r ≡ then_some b x)) → r ≡ None
+      → ((x : X) → P x false → No x) → MatchOption o (Unit {0}) No
+  kept_none No o r m e f = go o (subst (λ z. MatchOption z (MatchOption o (Unit {0}) (λ x. P x false)) (λ x. (o ≡ Some x) × P x true)) e (sieved o r m))
+    where
+      go : (o : rust.Option X) → MatchOption o (Unit {0}) (λ x. P x false) → MatchOption o (Unit {0}) No
+      go None m = tt
+      go (Some x) m = f x m
 
 pub owner_told : (k : Key) (v : ℕ) (t : Table) {m : ℕ} → m ≡ info_owner_of v (at k t).info (at k t).owner → m ≡ package_info_owner k v t
 unfolding package_info_owner

@@ -39,11 +39,8 @@ fn close(s: &mut [u8], k: ident::Key)
     requires { Kept s.old }
     ensures { Makes s.old s.new (λ t. Unit {0}) (change (key_num k) closed) }
 {
-    let t = k.kind;
-    let h = k.hash;
-    match t {
-        ident::Kind::Txid => {}
-        ident::Kind::Wtxid => package_stages::close(s, h),
+    if k.kind == ident::Kind::Wtxid {
+        package_stages::close(s, k.hash);
     }
 }
 
@@ -139,12 +136,10 @@ pub fn package_info_owner(s: &[u8], k: ident::Key, clock: u64) -> Option<Connect
     if r.stage != Some(Stage::Flagged) {
         return None;
     }
-    match r.owner {
-        Some(owner) if clock < owner.deadline => Some(Connection {
-            number: owner.connection,
-        }),
-        _ => None,
-    }
+    let owner = r.owner.filter(|o| clock < o.deadline)?;
+    Some(Connection {
+        number: owner.connection,
+    })
 }
 
 // Whether the connection n is asked for package info of the request at k.
