@@ -1,3 +1,4 @@
+mod Spans
 pub mod AtOnce
 pub mod RowsLeft
 pub mod Lessening

@@ -1,8 +1,8 @@
 -- The test of one row, and that the rows that go are those of one connection, none of which owns its request.
-use Prim.Native.Nat.{ℕ, ◌/◌, ◌%◌}
-use mathlib.Core.Path.{◌≡◌}
+use Prim.Native.Nat.{ℕ}
+use mathlib.Core.Path.{◌≡◌, refl, sym, ap, ◌∙◌}
 use mathlib.Core.Logic.{inl, inr}
-use mathlib.Core.Bool.{Bool, true, false, not, ◌&&◌}
+use mathlib.Core.Bool.{Bool, true, false, not}
 use native.Mathlib.Omega.{arith}
 use lib.Dec.{eqb}
 use borrow.Author.Tests.{eqb-true, eqb-false, eq-eqb, ne_eqb, not-false as gone}
@@ -24,8 +24,12 @@ none = record { hash = record { w0 = 0; w1 = 0; w2 = 0; w3 = 0 }; conn = 0; read
 -- ---- as the code tests
 
 module _ (r : Row) (n : ℕ) (from to : RowKey) where
-  pub its_own : {o w : Bool} → r.conn ≡ n → o ≡ owns r → w ≡ row_key_in from to (row_key_of r) → (not o && w) ≡ row_in n from to r
-  its_own e o f = rw (eq-eqb r.conn n e, o, f)
+  module _ (e : r.conn ≡ n) {o : Bool} (d : o ≡ owns r) where
+    pub its_own : not o ≡ true → {w : Bool} → w ≡ row_key_in from to (row_key_of r) → w ≡ row_in n from to r
+    its_own z f = rw (eq-eqb r.conn n e, ap not (sym d) ∙ z) f
+
+    pub owned : {v : Bool} → v ≡ not o → v ≡ false → v ≡ row_in n from to r
+    owned x z = z ∙ rw (eq-eqb r.conn n e, ap not (sym d) ∙ sym x ∙ z) refl
 
   pub anothers : (r.conn ≡ n → ⊥) → false ≡ row_in n from to r
   anothers e = rw (ne_eqb r.conn n e)

@@ -23,26 +23,18 @@ pub struct Span {
     pub to: regions::Key,
 }
 
-// Whether the key k is one from `from` to `to`. (By `key_less`, whose clause is of the keys' numbers, as this one's: a derived `<=` would need the law of both orders here.)
-fn inside(k: regions::Key, from: regions::Key, to: regions::Key) -> bool
-    ensures { result ≡ row_key_in from to k }
+// Whether the key k is one of the span's.
+fn inside(k: regions::Key, p: Span) -> bool
+    ensures { result ≡ row_key_in p.from p.to k }
 {
-    !regions::key_less(k, from) & !regions::key_less(to, k)
+    (p.from..=p.to).contains(&k)
 }
 
 // Whether the row goes: of that connection, no owner, under one of these keys.
 fn goes(r: regions::Row, p: Span) -> bool
     ensures { result ≡ row_in p.conn p.from p.to r }
 {
-    if r.conn == p.conn {
-        let k = regions::Key::from(r);
-        let from = p.from;
-        let to = p.to;
-        let within = inside(k, from, to);
-        !r.owns() & within
-    } else {
-        false
-    }
+    r.conn == p.conn && !r.owns() && inside(regions::Key::from(r), p)
 }
 
 // Takes the rows that go out of the store; answers how many they were.

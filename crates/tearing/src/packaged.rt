@@ -32,10 +32,7 @@ fn follows_last(s: &[u8], i: usize, q: regions::Quad) -> bool
     requires { Shown s.now × (i ≤ held_places_in s.now) }
     ensures { result ≡ true → (f : Flat) (d : Place) → Shows s.now f → 0 < i → (get_or f.places (i - 1) d).hash < quad_number q }
 {
-    if i == 0 {
-        return true;
-    }
-    comes_before(s, i - 1, q)
+    i == 0 || comes_before(s, i - 1, q)
 }
 
 // Whether the place of the hash q stands at i, or would.
@@ -44,16 +41,7 @@ fn stands_at(s: &[u8], i: usize, q: regions::Quad) -> bool
     ensures { result ≡ true → Seek s.now (λ f. place_hashes f.places) (held_places_in s.now) (quad_number q) i }
 {
     let n = store::head::held_places(s);
-    if n < i {
-        return false;
-    }
-    if !follows_last(s, i, q) {
-        return false;
-    }
-    if i < n {
-        return !comes_before(s, i, q);
-    }
-    true
+    i <= n && follows_last(s, i, q) && (i == n || !comes_before(s, i, q))
 }
 
 // Where the place of the hash q stands, or would: at the guess, behind it, or by a search. (No `regions::near`, which tries one guess: rows of one hash may
@@ -72,7 +60,7 @@ fn seek_near(s: &[u8], q: regions::Quad, guess: usize) -> usize
     package_stages::flat::seek_place(s, q)
 }
 
-// Whether the place at i is a package's, and of the hash q.
+// Whether the place at i is a package's, and of the hash q. (By the word: a package's stages are those from AWAITING on, as in `tear_place`.)
 fn is_package(s: &[u8], q: regions::Quad, i: usize) -> bool
     requires { Shown s.now × Seek s.now (λ f. place_hashes f.places) (held_places_in s.now) (quad_number q) i }
     ensures { PackageAt s.now (quad_number q) result }
