@@ -70,7 +70,7 @@ const MOST: usize = MAX_PEER_IN_FLIGHT as usize;
 
 // Room for the claims of a connection.
 fn room() -> [Claim; MOST] {
-    let none = ident::Hash { words: [0; 4] };
+    let none = ident::Hash::from(regions::Quad::ZERO);
     let claim = Claim {
         key: none,
         combined: none,
@@ -174,26 +174,28 @@ enum Given<'a> {
     Items(&'a [u8]),
 }
 
-// How many entries a list has.
-fn entries(given: Given) -> usize
-    ensures { result ≡ length (entries_in given.entry) }
-{
-    match given {
-        Given::Hashes(bytes) => lent_lists::hashes(bytes),
-        Given::Items(bytes) => lent_lists::items(bytes),
+impl Given<'_> {
+    // How many entries it has.
+    fn count(self) -> usize
+        ensures { result ≡ length (entries_in self.entry) }
+    {
+        match self {
+            Given::Hashes(bytes) => lent_lists::hashes(bytes),
+            Given::Items(bytes) => lent_lists::items(bytes),
+        }
     }
-}
 
-// The combined hash that an entry gives, if it gives one.
-fn entry_at(given: Given, i: usize) -> Option<ident::Hash>
-    requires { i < length (entries_in given) }
-    ensures { hash_found result ≡ get_or (entries_in given.entry) i none }
-{
-    match given {
-        Given::Hashes(bytes) => Some(lent_lists::hash_in(bytes, i)),
-        Given::Items(bytes) => {
-            let item = lent_lists::item_at(bytes, i);
-            (item.kind == ident::ItemKind::Other(MSG_PKGTXNS)).then_some(item.hash)
+    // The combined hash that the i-th entry gives, if it gives one.
+    fn get(self, i: usize) -> Option<ident::Hash>
+        requires { i < length (entries_in self) }
+        ensures { hash_found result ≡ get_or (entries_in self.entry) i none }
+    {
+        match self {
+            Given::Hashes(bytes) => Some(lent_lists::hash_in(bytes, i)),
+            Given::Items(bytes) => {
+                let item = lent_lists::item_at(bytes, i);
+                (item.kind == ident::ItemKind::Other(MSG_PKGTXNS)).then_some(item.hash)
+            }
         }
     }
 }
@@ -210,11 +212,10 @@ fn fail_given(
     requires { Kept s.old × ClaimsFit (length (given_in given)) s.old out.old × ClaimsNoted n.number s.old claims.now }
     ensures { KeysListed s.old s.new out.old out.new result (λ m t. failed_package_claims m n.number (given_in given.entry) clock t) }
 {
-    let count = entries(given);
+    let count = given.count();
     let mut c = 0;
     for i in 0..count {
-        let entry = entry_at(given, i);
-        c = fail_entry(s, n, entry, clock, claims, out, c);
+        c = fail_entry(s, n, given.get(i), clock, claims, out, c);
     }
     c
 }

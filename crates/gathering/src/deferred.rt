@@ -18,8 +18,7 @@ use announcing::foremost::Victims;
 use regions::Row;
 use regions::listed::Records;
 
-// Whether one of the first n rows listed is at the hash h. (Tried as `any`: the closure needs a contract that speaks of every list that the region
-// may hold, and a proof of its own, where the loop keeps one fact of the rows that it has passed.)
+// Whether one of the first n rows listed is at the hash h.
 fn listed_at(top: &Victims, n: usize, h: ident::Hash) -> bool
     requires { n ≤ list_space }
     ensures { ListedAt (words top.now.bytes) n (hash_num h) result }

@@ -20,13 +20,13 @@ fail_entry-c-requires c =
     let late : a.clock < word = omega arith in
     let v = c.loop-i.invariant in
     let inside : c.loop-i.i < length (entries_in a.given) =
-    omega (arith, c.entries-count.ensures, c.loop-i-test.true) in
+    omega (arith, c.count-count.ensures, c.loop-i-test.true) in
     let given = somes_given a.given in
     let kept = c.requires.0 in (
       failed_kept v peer late kept,
       failed-fits v peer late kept (ap length given) c.requires.1,
-      failed-room v peer late kept (ap length given) c.requires.1 (hash_found c.entry_at-entry.result) inside
-          c.entry_at-entry.ensures c.requires.2,
+      failed-room v peer late kept (ap length given) c.requires.1 (hash_found c.get.result) inside
+          c.get.ensures c.requires.2,
       failed_few v peer late kept,
     )
 
@@ -38,13 +38,13 @@ loop-i-preserved c =
     let v = c.loop-i.invariant in
     let inside : c.loop-i.i < length (entries_in a.given) = omega (
       arith,
-      c.entries-count.ensures,
+      c.count-count.ensures,
       c.loop-i-test.true,
     ) in
-    failed_more v peer late (hash_found c.entry_at-entry.result) inside c.entry_at-entry.ensures
+    failed_more v peer late (hash_found c.get.result) inside c.get.ensures
     c.requires.2 (omega (arith, c.fail_entry-c.auto)) (omega (arith, c.fail_entry-c.auto))
     c.fail_entry-c.ensures
 
 pub returns : goal.returns
-returns c = failed_done (given_in c.args.given) c.loop-i.invariant (omega (arith, c.entries-count.ensures, c.loop-i-test.false))
+returns c = failed_done (given_in c.args.given) c.loop-i.invariant (omega (arith, c.count-count.ensures, c.loop-i-test.false))
     (somes_given c.args.given)
