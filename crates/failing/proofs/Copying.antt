@@ -26,7 +26,10 @@ use Rattle.machine.proofs.Table.{lawful_at, at_key}
 use Rattle.package_stages.specs.Changes.{has_place, PlaceSpot, ReadAt}
 use Rattle.package_stages.proofs.Seeking.{holding}
 use Rattle.lent_lists.specs.Lists.{hashes_in}
-use Rattle.failing.specs.Changes.{first_hashes}
+
+-- the first n hashes of 32 bytes each
+abbrev pub first_hashes : ℕ → List ℕ → List ℕ
+first_hashes n b = recs hash_bytes (number 256) n b
 
 -- ---- one hash more
 

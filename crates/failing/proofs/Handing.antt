@@ -27,7 +27,8 @@ use Rattle.lent_lists.specs.Lists.{hashes_in}
 use Rattle.lent_lists.proofs.Answer.{written_none}
 use Rattle.requests.specs.Changes.{Tells}
 use Rattle.announcing.specs.Answers.{Answered, KeysListed}
-use Rattle.failing.specs.Changes.{first_hashes, led}
+use Rattle.failing.specs.Changes.{led}
+use Rattle.failing.proofs.Copying.{first_hashes}
 
 -- ---- a key before the others
 

@@ -2,13 +2,12 @@
 // candidate that is left.
 //
 // Key, connection and clock are arguments of their own, as document 01 gives them to each of these steps: the caller has them apart, and no step keeps them.
-// The answer u is longer than its keys: how many stand in it, n, goes beside it.
+// The answer u is longer than its keys: how many stand in it, c, goes beside it. The connection is n.
 #![tactic(auto)]
 
-ghost use Rattle.std.specs.Prelude.{◌≡◌, ◌≤◌, true, false, is_some, [], length, take};
+ghost use Rattle.std.specs.Prelude.{◌≡◌, ◌≤◌, true, is_some, [], length};
 ghost use Rattle.ident.specs.Words.{key_num};
-ghost use Rattle.regions.specs.Rows.{key_number, key_of as row_key_of};
-ghost use Rattle.machine.specs.Limits.{max_alternates, max_parents};
+ghost use Rattle.machine.specs.Limits.{max_parents};
 ghost use Rattle.machine.specs.State.{owner_is};
 ghost use Rattle.machine.specs.Table.{at};
 ghost use Rattle.machine.specs.Fail.{announce_parents, parents_for};
@@ -26,16 +25,12 @@ use lent_lists::{KEYS, LIST};
 use machine::limits::MAX_ALTERNATES;
 use store::rows::Window;
 
-fn no_keys() -> [u8; KEYS] {
-    [0u8; KEYS]
-}
-
-// Copies the connections of the candidates of the request at k to the front of `conns`; answers how many they are. (By the index: the invariant is of the first i of both, where
+// Copies the connections of the candidates of the request at k to the front of `conns`, and gives that part of it. (By the index: the invariant is of the first i of both, where
 // a zip with `iter_mut` would have one of what it yielded and of what is left to write.)
 #[tactic(auto, using(requests::proofs::Keeping::kept_shown))]
-fn copy_conns(s: &[u8], k: ident::Key, conns: &mut [u64; MAX_ALTERNATES]) -> usize
+fn copy_conns<'a>(s: &[u8], k: ident::Key, conns: &'a mut [u64; MAX_ALTERNATES]) -> &'a [u64]
     requires { Kept s.now }
-    ensures { (result ≤ max_alternates) × Tells s.now (λ t. take result conns.new ≡ conns_of (at (key_num k) t).candidates) }
+    ensures { Tells s.now (λ t. result.now ≡ conns_of (at (key_num k) t).candidates) }
 {
     let key = regions::Key::from(k);
     let w = requests::window_of(s, key);
@@ -45,26 +40,26 @@ fn copy_conns(s: &[u8], k: ident::Key, conns: &mut [u64; MAX_ALTERNATES]) -> usi
         let r = store::rows::row_at(s, from + i);
         conns[i] = r.conn;
     }
-    n
+    &conns[..n]
 }
 
-// Announces the parents for the connection x, and puts the keys of those kept in order among the first n of u. Answers how many
-// keys there are then. (u is lent longer than its n keys, since more go behind these: merging takes the two so, and a slice of n keys has
+// Announces the parents for the connection n, and puts the keys of those kept in order among the first c of u. Answers how many
+// keys there are then. (u is lent longer than its c keys, since more go behind these: merging takes the two so, and a slice of c keys has
 // no room to grow.)
 fn announce_for(
     s: &mut [u8],
-    x: Connection,
+    n: Connection,
     clock: u64,
     list: &[u8],
     u: &mut [u8],
-    n: usize,
+    c: usize,
 ) -> usize
-    requires { Kept s.old × (length (hashes_in list.now) ≤ max_parents) × InOrder u.old n × Roomy s.old u.old n (λ m t. announce_parents m x.number clock (hashes_in list.now) t) }
-    ensures { KeysMerged s.old s.new u.old u.new n result (λ m t. announce_parents m x.number clock (hashes_in list.now) t) }
+    requires { Kept s.old × (length (hashes_in list.now) ≤ max_parents) × InOrder u.old c × Roomy s.old u.old c (λ m t. announce_parents m n.number clock (hashes_in list.now) t) }
+    ensures { KeysMerged s.old s.new u.old u.new c result (λ m t. announce_parents m n.number clock (hashes_in list.now) t) }
 {
-    let mut keys = no_keys();
-    let c = announcing::parents::announce_parents(s, x, clock, list, &mut keys);
-    merging::merge(u, n, &keys, c)
+    let mut keys = [0; KEYS];
+    let kept = announcing::parents::announce_parents(s, n, clock, list, &mut keys);
+    merging::merge(u, c, &keys, kept)
 }
 
 // The same for each of some connections.
@@ -74,13 +69,13 @@ fn announce_each(
     list: &[u8],
     conns: &[u64],
     u: &mut [u8],
-    n: usize,
+    c: usize,
 ) -> usize
-    requires { Kept s.old × (length (hashes_in list.now) ≤ max_parents) × Peers conns.now × InOrder u.old n
-        × Roomy s.old u.old n (λ m t. announce_for m clock (hashes_in list.now) conns.now t) }
-    ensures { KeysMerged s.old s.new u.old u.new n result (λ m t. announce_for m clock (hashes_in list.now) conns.now t) }
+    requires { Kept s.old × (length (hashes_in list.now) ≤ max_parents) × Peers conns.now × InOrder u.old c
+        × Roomy s.old u.old c (λ m t. announce_for m clock (hashes_in list.now) conns.now t) }
+    ensures { KeysMerged s.old s.new u.old u.new c result (λ m t. announce_for m clock (hashes_in list.now) conns.now t) }
 {
-    let mut r = n;
+    let mut r = c;
     for &number in conns {
         r = announce_for(s, Connection { number }, clock, list, u, r);
     }
@@ -100,12 +95,12 @@ pub fn drop_owned(
     requires { Kept s.old × Tells s.old (λ t. owner_is n.number (at (key_num k) t).owner ≡ true) × InOrder u.old c × Roomy s.old u.old c (λ m t. drop_at_key m n.number clock (key_num k) t) }
     ensures { KeysMerged s.old s.new u.old u.new c result (λ m t. drop_at_key m n.number clock (key_num k) t) }
 {
-    let mut list = [0u8; LIST];
+    let mut list = [0; LIST];
     let parents = failing::parents::parents_for(s, k, n, &mut list);
     failing::failed(s, k, n.number, clock);
-    let mut conns = [0u64; MAX_ALTERNATES];
-    let q = copy_conns(s, k, &mut conns);
-    announce_each(s, clock, parents, &conns[..q], u, c)
+    let mut room = [0; MAX_ALTERNATES];
+    let conns = copy_conns(s, k, &mut room);
+    announce_each(s, clock, parents, conns, u, c)
 }
 
 // ---- a key that waits to be cut with others
@@ -158,7 +153,7 @@ fn is_childless(s: &[u8], k: ident::Key, n: Connection) -> bool
     requires { Kept s.now }
     ensures { result ≡ true → Tells s.now (λ t. parents_for n.number (at (key_num k) t) ≡ []) }
 {
-    let mut list = [0u8; LIST];
+    let mut list = [0; LIST];
     failing::parents::parents_for(s, k, n, &mut list).is_empty()
 }
 

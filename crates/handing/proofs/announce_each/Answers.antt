@@ -10,7 +10,7 @@ use Rattle.announcing.proofs.Lent.{few_hashes}
 use Rattle.handing.proofs.announce_each.Goals as goal
 
 pub loop-number-init : goal.loop-number-init
-loop-number-init c = handing_none c.args.clock (hashes_in c.args.list.now) c.args.conns.now c.args.s.now c.args.u.now c.args.n c.requires.3
+loop-number-init c = handing_none c.args.clock (hashes_in c.args.list.now) c.args.conns.now c.args.s.now c.args.u.now c.args.c c.requires.3
 
 pub announce_for-r-requires : goal.announce_for-r-requires
 announce_for-r-requires c =

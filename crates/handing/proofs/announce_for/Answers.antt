@@ -15,15 +15,15 @@ merge-requires c = let kept = c.requires.0 in
       omega (
         arith,
         c.requires.1,
-        c.announce_parents-c.auto,
-        c.announce_parents-c.ensures.count kept.state kept.sound kept.writes,
-        length-announce_parents (limits_of kept.state) c.args.x.number
+        c.announce_parents-kept.auto,
+        c.announce_parents-kept.ensures.count kept.state kept.sound kept.writes,
+        length-announce_parents (limits_of kept.state) c.args.n.number
             c.args.clock hs kept.state.table,
       ),
-      merge-room c.args.x.number
+      merge-room c.args.n.number
           c.args.clock hs few
-          c.announce_parents-c.ensures c.args.u.now
-          c.args.n kept
+          c.announce_parents-kept.ensures c.args.u.now
+          c.args.c kept
           c.requires.3,
     )
 
@@ -31,6 +31,6 @@ pub returns : goal.returns
 returns c = let hs = hashes_in c.args.list.now in
     let few : FewHashes hs =
     few_hashes c.args.list.now c.type_inv.list c.requires.1 in
-    one_merged c.args.x.number
+    one_merged c.args.n.number
     c.args.clock hs few
-    c.announce_parents-c.ensures c.merge.ensures
+    c.announce_parents-kept.ensures c.merge.ensures

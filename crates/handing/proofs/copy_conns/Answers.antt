@@ -34,12 +34,9 @@ loop-i-preserved c = (
 )
 
 pub returns : goal.returns
-returns c = (
-  c.loop-i.invariant.1,
-  λ st s w.
-      let k = key_num c.args.k in
-      let key = c.from-key.ensures in
-      let from = from_at st s k key.small key.number (c.window_of-w.ensures.from_is st s w) in
-      let n = window-size k st.table from (to_at st s k key.small key.number (c.window_of-w.ensures.to_is st s w)) in
-      copied_all st s k c.loop-i.invariant.0 c.loop-i-test.false (flat_of st) refl w from (c.len-n.ensures ∙ n),
-)
+returns c = λ st s w.
+    let k = key_num c.args.k in
+    let key = c.from-key.ensures in
+    let from = from_at st s k key.small key.number (c.window_of-w.ensures.from_is st s w) in
+    let n = window-size k st.table from (to_at st s k key.small key.number (c.window_of-w.ensures.to_is st s w)) in
+    copied_all st s k c.loop-i.invariant.0 c.loop-i-test.false (flat_of st) refl w from (c.len-n.ensures ∙ n)

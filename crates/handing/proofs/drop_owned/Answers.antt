@@ -6,8 +6,8 @@ use Rattle.handing.proofs.Dropping.{drop_kept, drop_peers, drop-room, dropped}
 use Rattle.announcing.proofs.Lent.{key_low}
 use Rattle.handing.proofs.drop_owned.Goals as goal
 
-pub copy_conns-q-requires : goal.copy_conns-q-requires
-copy_conns-q-requires c = let v : c.args.clock < word =
+pub copy_conns-conns-requires : goal.copy_conns-conns-requires
+copy_conns-conns-requires c = let v : c.args.clock < word =
     omega (arith, c.well_formed.1.1.1.0) in
     drop_kept (key_num c.args.k) (key_low c.args.k c.well_formed.1.0)
     c.args.n.number
@@ -30,7 +30,7 @@ announce_each-requires c =
           c.args.clock v
           c.failed.ensures
           c.requires.1 _ c.parents_for-parents.ensures.1 _
-          c.copy_conns-q.ensures.1
+          c.copy_conns-conns.ensures
           c.requires.0,
       c.requires.2,
       drop-room (key_num c.args.k)
@@ -38,7 +38,7 @@ announce_each-requires c =
           c.args.clock v
           c.failed.ensures
           c.requires.1 _ c.parents_for-parents.ensures.1 _
-          c.copy_conns-q.ensures.1
+          c.copy_conns-conns.ensures
           c.args.u.now
           c.args.c
           c.requires.0
@@ -51,5 +51,5 @@ returns c =
     let small = key_low c.args.k c.well_formed.1.0 in
     dropped (key_num c.args.k) small c.args.n.number c.args.clock v c.failed.ensures
     c.requires.1 _ c.parents_for-parents.ensures.1 _
-    c.copy_conns-q.ensures.1
+    c.copy_conns-conns.ensures
     c.announce_each.ensures
