@@ -23,7 +23,7 @@ returns-in_err-owner c = λ st s w.
 
 pub invariant_of-result : goal.invariant_of-result
 invariant_of-result c =
-    let kept = kept_some _ (λ o. c.args.clock < o.deadline) _ _ c.filter.ensures c.in_ok-owner.was (λ o k. search (rules, tests)) in
+    let kept = kept_some _ (λ o. Unit {0}) _ _ c.filter.ensures c.in_ok-owner.was (λ o k. tt) in
     record { positive = named_positive (key_num c.args.k) (λ st s w. c.request_at-r.ensures.is st s w) c.requires kept.0 }
 
 pub returns : goal.returns
