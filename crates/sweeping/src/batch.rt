@@ -22,12 +22,27 @@ pub struct Batch {
     pub last: Option<ident::Key>,
 }
 
-pub fn nothing() -> Batch
-    ensures { (result.count ≡ 0) × Stands result.last none }
-{
-    Batch {
-        count: 0,
-        last: None,
+impl Batch {
+    pub fn nothing() -> Self
+        ensures { (result.count ≡ 0) × Stands result.last none }
+    {
+        Batch {
+            count: 0,
+            last: None,
+        }
+    }
+
+    // Hands out the key of one row behind those handed out.
+    fn hand(self, out: &mut [u8], r: regions::Row) -> Self
+        requires { key_bytes * self.count + key_bytes ≤ length out.old }
+        ensures { Put out.old out.new self r result }
+    {
+        let k = announcing::evict::key_of(r);
+        lent_lists::put_key(out, self.count, k);
+        Batch {
+            count: self.count + 1,
+            last: Some(k),
+        }
     }
 }
 
@@ -43,20 +58,6 @@ pub fn ends_key(s: &[u8], r: regions::Row, j: usize, to: usize) -> bool
     regions::Key::from(r) != regions::Key::from(q)
 }
 
-// Hands out the key of one row.
-fn hand(out: &mut [u8], v: Batch, r: regions::Row) -> Batch
-    requires { key_bytes * v.count + key_bytes ≤ length out.old }
-    ensures { Put out.old out.new v r result }
-{
-    let k = announcing::evict::key_of(r);
-    let n = v.count;
-    lent_lists::put_key(out, n, k);
-    Batch {
-        count: n + 1,
-        last: Some(k),
-    }
-}
-
 // Hands out the keys of a window's rows, behind those of v, as long as there are fewer than `most`. (`most` is a limit of the machine: `out` may be longer. Plans, owners
 // and the next look walk over keys in the same way, and stop, pass and add up otherwise: one walk over a closure would ask in clauses how what it keeps goes on, longer than the loop.)
 pub fn keys_in(s: &[u8], rows: Window, most: usize, out: &mut [u8], v: Batch) -> Batch
@@ -70,7 +71,7 @@ pub fn keys_in(s: &[u8], rows: Window, most: usize, out: &mut [u8], v: Batch) ->
         }
         let r = store::rows::row_at(s, i);
         if ends_key(s, r, i + 1, rows.to) {
-            w = hand(out, w, r);
+            w = w.hand(out, r);
         }
     }
     w

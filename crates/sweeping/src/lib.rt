@@ -24,7 +24,7 @@ pub fn known_batch(s: &[u8], out: &mut [u8]) -> batch::Batch
 {
     let n = store::head::rows(s);
     let from = batch::after_known(s);
-    let none = batch::nothing();
+    let none = batch::Batch::nothing();
     let v = batch::keys_in(s, Window { from, to: n }, MAX_KNOWN_CHECKS, out, none);
     batch::keys_in(s, Window { from: 0, to: from }, MAX_KNOWN_CHECKS, out, v)
 }
@@ -35,8 +35,7 @@ pub fn sweep(s: &mut [u8], out: &mut [u8]) -> usize
     ensures { KeysHanded s.old s.new out.old out.new result (λ st. next_batch st) (λ st. with_known_cursor (last_of (next_batch st)) st) }
 {
     let v = known_batch(s, out);
-    let last = v.last;
-    cursors::move_known(s, last);
+    cursors::move_known(s, v.last);
     v.count
 }
 
