@@ -45,7 +45,7 @@ fn expire_place(
     requires { PlaceExpiring s.old first.old m p (key_num k) × Exhausted (take m s.old) spent }
     ensures { PlaceExpires s.old s.new first.old first.new m p (key_num k) n.number clock result }
 {
-    let mut slot = crate::slot_room();
+    let mut slot = [0; SLOT];
     slots::load(s, m, first, p.at, &mut slot);
     lapse(s, m, first, p, k, n.number, clock);
     let parents = Parents {

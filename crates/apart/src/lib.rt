@@ -5,12 +5,11 @@
 // and the other places lie behind them. `put_back` undoes it, without the places that died meanwhile, when nothing is noted of a place any more.
 #![tactic(auto)]
 
-ghost use Rattle.std.specs.Prelude.{◌≡◌, ◌*◌, ◌≤◌, length};
+ghost use Rattle.std.specs.Prelude.{◌≡◌};
 ghost use Rattle.store.specs.Shown.{limit_in, Kept};
-ghost use Rattle.apart.specs.Apart.{slot_bytes, bare_bytes, SetApart, Rested, PutBack};
+ghost use Rattle.apart.specs.Apart.{bare_bytes, SetApart, Rested, PutBack};
 
 use places::PLACE;
-use regions::{CONN, ROW};
 use store::layout;
 
 pub mod displacing;
@@ -25,20 +24,12 @@ pub mod slots;
 pub const SLOT: usize = PLACE * 8;
 
 // The bytes of a store with as many rows, but one place.
-#[tactic(auto, using(announcing::proofs::Lent::kept_long))]
+#[tactic(auto, using(requests::proofs::Keeping::kept_shown))]
 pub fn bare_bytes(s: &[u8]) -> usize
     requires { Kept s.now }
     ensures { result ≡ bare_bytes (limit_in s.now) }
 {
-    let l = store::head::limit(s);
-    (store::head::HEAD + l * ROW + l * CONN) * 8 + SLOT
-}
-
-// Room for a place.
-pub fn slot_room() -> [u8; SLOT]
-    ensures { length result ≡ slot_bytes }
-{
-    [0u8; SLOT]
+    layout::places_part(s).start + SLOT
 }
 
 // Sets the places apart; m are the bytes without the others.

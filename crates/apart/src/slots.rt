@@ -23,10 +23,15 @@ pub struct Spot {
 
 // Which parents of a place were kept: those of the first half and the others, the first the least bit.
 // (Two numbers, no u128: a place has two words for them.)
-#[derive(Clone, Copy)]
+#[derive(Clone, Copy, PartialEq, Eq)]
 pub struct Note {
     pub low: u64,
     pub high: u64,
+}
+
+impl Note {
+    // None was kept.
+    pub const NONE: Note = Note { low: 0, high: 0 };
 }
 
 // Copies the i-th place of a region.
@@ -125,7 +130,7 @@ pub fn forget(s: &mut [u8], m: usize, first: &mut [u8; SLOT], n: usize)
     ensures { Forgotten s.old s.new first.old first.new m n }
 {
     for i in 0..n {
-        set_note(s, m, first, i, Note { low: 0, high: 0 });
+        set_note(s, m, first, i, Note::NONE);
     }
 }
 
@@ -154,10 +159,7 @@ fn find_hash(s: &[u8], m: usize, first: &[u8; SLOT], n: usize, h: ident::Hash) -
         return None;
     }
     let p = head_at(s, m, first, i);
-    if regions::quad_less(q, p.hash) {
-        return None;
-    }
-    if p.stage == DEAD {
+    if regions::quad_less(q, p.hash) || p.stage == DEAD {
         return None;
     }
     Some(Spot {

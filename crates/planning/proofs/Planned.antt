@@ -33,10 +33,10 @@ use Rattle.apart.proofs.BareChoice.{phase-bare}
 use Rattle.apart.proofs.Overdue.{front_is, rest_stays, slots_rest}
 use Rattle.selecting.specs.declared.Scan.{Scan}
 use Rattle.planning.specs.declared.replying.Reply.{Reply}
-use Rattle.selecting.specs.Selecting.{Scanning}
+use Rattle.selecting.specs.Selecting.{Fresh, Scanning}
 use Rattle.planning.specs.Expiring.{ExpiresAll}
 use Rattle.planning.specs.Noting.{NotedPhased}
-use Rattle.planning.specs.Replying.{Fresh, Selects, asks, Asks, AsksOf, Begun, BegunTo, Begins, SelectsOf, PlansOf}
+use Rattle.planning.specs.Replying.{Selects, asks, Asks, AsksOf, Begun, BegunTo, Begins, SelectsOf, PlansOf}
 use Rattle.planning.proofs.Whole.{fresh-scan}
 
 -- ---- expiry and the first phase

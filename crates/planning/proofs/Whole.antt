@@ -27,10 +27,10 @@ use Rattle.store.proofs.Stored.{written_bytes}
 use Rattle.announcing.specs.Evicts.{entry_at}
 use Rattle.cursors.specs.InWords.{Stands}
 use Rattle.selecting.specs.declared.Scan.{Scan}
-use Rattle.selecting.specs.Selecting.{mark_all, until, Marks, Numbered, Scanning, Marked, GivenBack, RowsOfStore, EntriesPut}
+use Rattle.selecting.specs.Selecting.{Fresh, mark_all, until, Marks, Numbered, Scanning, Marked, GivenBack, RowsOfStore, EntriesPut}
 use Rattle.selecting.specs.Phasing.{Phased}
 use Rattle.selecting.specs.Ordering.{SortedRows}
-use Rattle.planning.specs.Replying.{Fresh, Closed, Begun, AsksOf}
+use Rattle.planning.specs.Replying.{Closed, Begun, AsksOf}
 use Rattle.selecting.proofs.GivingBack.{some_entry}
 use Rattle.selecting.proofs.SameRows.{marked-rows, numbered_as}
 

@@ -14,23 +14,16 @@ use Rattle.store.specs.Image.{Writes}
 use Rattle.apart.specs.Bare.{bare, bare_state}
 use Rattle.apart.specs.Apart.{resting, Apart}
 use Rattle.choosing.specs.Choosing.{option_of}
-use Rattle.cursors.specs.InWords.{Stands}
 use Rattle.selecting.specs.declared.Scan.{Scan}
 use Rattle.planning.specs.declared.replying.Reply.{Reply}
 use Rattle.planning.specs.declared.plan.Planned.{Planned}
-use Rattle.selecting.specs.Selecting.{Marks, Scanning}
+use Rattle.selecting.specs.Selecting.{Fresh, Marks, Scanning}
 use Rattle.selecting.specs.Phasing.{given_keys}
 
 -- what a plan is asked for: the keys that given bytes hold, or all
 abbrev pub asked_in : {A : Type 0} → (A → List ℕ) → rust.Option A → Option (List Key)
 asked_in f rust.None = none
 asked_in f (rust.Some g) = some (given_keys (f g))
-
--- nothing is selected yet
-pub record Fresh (v : Scan) : Type 0 where
-  pub chosen : v.chosen ≡ 0
-  pub considered : v.considered ≡ 0
-  pub last : Stands v.last none
 
 -- whatever is marked in b, b' write the state without it, and u' has the entries, sorted, over the first bytes of u
 abbrev pub Closed : List ℕ → List ℕ → List ℕ → ℕ → List ℕ → List ℕ → Type 0

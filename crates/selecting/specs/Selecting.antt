@@ -74,6 +74,12 @@ pub record OneSelected (b b' p p' : List ℕ) (now : ℕ) (x y : Window) (n n' :
 
 -- ---- a scan on the way
 
+-- nothing is selected yet
+pub record Fresh (v : Scan) : Type 0 where
+  pub chosen : v.chosen ≡ 0
+  pub considered : v.considered ≡ 0
+  pub last : Stands v.last none
+
 -- l are selected of the state st: b write its table with them marked, and p begin with the n numbers of their rows
 pub record Marks (now : ℕ) (st : State) (l : List Entry) (b p : List ℕ) (n : ℕ) : Type 0 where
   pub sound : Sound (on_table (mark_all (until now) l st.table) st)

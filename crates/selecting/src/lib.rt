@@ -6,11 +6,11 @@
 // would have to say that it is the same lend. What one phase's scans have room for (`Roomy`) is a clause and no ghost field, since `consider` takes any scan.
 #![tactic(auto, using(requests::proofs::Keeping::kept_shown, sweeping::proofs::Lent::kept_head))]
 
-ghost use Rattle.std.specs.Prelude.{◌+◌, ◌≤◌, ◌<◌, length};
+ghost use Rattle.std.specs.Prelude.{◌≡◌, false, ◌+◌, ◌≤◌, ◌<◌, length};
 ghost use Rattle.ident.specs.Words.{hash_num, key_num};
 ghost use Rattle.store.specs.Shown.{rows_in, half, Kept};
 ghost use Rattle.choosing.specs.Choosing.{Windows};
-ghost use Rattle.selecting.specs.Selecting.{OneSelected, Considers};
+ghost use Rattle.selecting.specs.Selecting.{Fresh, OneSelected, Considers};
 
 use choosing::HashRows;
 use machine::clock::Clock;
@@ -29,6 +29,30 @@ pub struct Scan {
     pub considered: u64,
     pub full: bool,
     pub last: Option<ident::Key>,
+}
+
+impl Scan {
+    // Nothing selected, nothing considered.
+    pub fn fresh() -> Self
+        ensures { Fresh result }
+    {
+        Scan {
+            chosen: 0,
+            considered: 0,
+            full: false,
+            last: None,
+        }
+    }
+
+    // The same scan, where a phase begins.
+    pub fn opened(self) -> Self
+        ensures { result ≡ record { chosen = self.chosen; considered = self.considered; full = false; last = self.last } }
+    {
+        Scan {
+            full: false,
+            ..self
+        }
+    }
 }
 
 // Selects what is to be chosen for the hash whose rows stand there, if nobody owns it, and remembers its row as the n-th. Answers how many are
@@ -80,8 +104,8 @@ pub fn consider(s: &mut [u8], clock: Clock, k: ident::Key, picks: &mut [usize], 
 #[derive(Clone, Copy)]
 pub struct Walk {
     pub scan: Scan,
-    pub txid: usize,
-    pub wtxid: usize,
+    pub txid_end: usize,
+    pub wtxid_end: usize,
 }
 
 // Considers the key k, whose hash is looked for behind the last one.
@@ -95,12 +119,12 @@ pub fn consider_next(
     requires { Kept s.old × (v.scan.chosen < length picks.old) × (v.scan.considered ≤ half) }
     ensures { Considers s.old s.new picks.old picks.new clock.time (key_num k) v.scan result.scan }
 {
-    let x = near::window_near(s, ident::Kind::Txid, k.hash, v.txid);
-    let y = near::window_near(s, ident::Kind::Wtxid, k.hash, v.wtxid);
+    let x = near::window_near(s, ident::Kind::Txid, k.hash, v.txid_end);
+    let y = near::window_near(s, ident::Kind::Wtxid, k.hash, v.wtxid_end);
     let h = HashRows { txid: x, wtxid: y };
     Walk {
         scan: consider_within(s, clock, k, h, picks, v.scan),
-        txid: x.to,
-        wtxid: y.to,
+        txid_end: x.to,
+        wtxid_end: y.to,
     }
 }

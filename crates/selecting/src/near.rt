@@ -36,7 +36,8 @@ fn ahead(wide: usize, step: usize) -> usize
 }
 
 // The first of n rows whose key does not stand before `start`, or n. By hand, since it begins at a guess: from there on the steps
-// double, then what is left is halved, so that a walk pays for the rows between two hashes; `regions::lower_bound` would halve all of them.
+// double, then what is left is halved, so that a walk pays for the rows between two hashes; `regions::lower_bound` would halve all of them, and so would
+// `regions::near` where the guess is not what is sought.
 fn seek_in(s: &[u8], n: usize, start: Bound<regions::Key>, guess: usize) -> usize
     requires { 8 * (row_size * n) ≤ length s.now }
     ensures { Sought (recs row_size row_key n (words s.now)) n (start_number start) result }

@@ -1,6 +1,6 @@
 // The phases of a plan's scan (document 01, "plan"): the given keys, or all keys after the ready cursor and round to it. "After a key, a
 // phase stops at 1,024 selected".
-ghost use Rattle.std.specs.Prelude.{◌≡◌, [], false, ◌+◌, ◌-◌, ◌≤◌, ◌<◌, length};
+ghost use Rattle.std.specs.Prelude.{◌≡◌, [], ◌+◌, ◌-◌, ◌≤◌, ◌<◌, length};
 ghost use Rattle.machine.specs.Limits.{max_request_checks};
 ghost use Rattle.machine.specs.Sweep.{round};
 ghost use Rattle.machine.specs.Table.{keys};
@@ -11,13 +11,6 @@ ghost use Rattle.selecting.specs.Phasing.{key_count, given_keys, Roomy, Scans, P
 
 use machine::clock::Clock;
 use store::rows::Window;
-
-// The same scan, where a phase begins.
-pub fn opened(v: crate::Scan) -> crate::Scan
-    ensures { result ≡ record { chosen = v.chosen; considered = v.considered; full = false; last = v.last } }
-{
-    crate::Scan { full: false, ..v }
-}
 
 // ---- given keys
 
@@ -61,7 +54,7 @@ pub fn phase_given(
     requires { Kept s.old × (max_request_checks < length picks.old) × (v.chosen ≤ max_request_checks) × (v.considered + key_count given.now ≤ half) }
     ensures { Phased s.old s.new picks.old picks.new clock.time (λ st. given_keys given.now) v result (key_count given.now) }
 {
-    keys_given(s, clock, given, picks, opened(v))
+    keys_given(s, clock, given, picks, v.opened())
 }
 
 // ---- all keys
@@ -79,8 +72,8 @@ fn keys_over(
 {
     let mut w = crate::Walk {
         scan: v,
-        txid: 0,
-        wtxid: 0,
+        txid_end: 0,
+        wtxid_end: 0,
     };
     for i in rows.from..rows.to {
         if w.scan.full {
@@ -102,6 +95,6 @@ pub fn phase_round(s: &mut [u8], clock: Clock, picks: &mut [usize], v: crate::Sc
     let c = cursors::cursor_at(s, store::layout::READY);
     let from = sweeping::batch::after_cursor(s, c);
     let n = store::head::rows(s);
-    let x = keys_over(s, clock, Window { from, to: n }, picks, opened(v));
+    let x = keys_over(s, clock, Window { from, to: n }, picks, v.opened());
     keys_over(s, clock, Window { from: 0, to: from }, picks, x)
 }
