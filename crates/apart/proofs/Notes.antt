@@ -10,10 +10,10 @@ use native.Mathlib.Numerals.{add-one}
 use lib.Dec.{eqb, ltb}
 use mir.Val.{bool_byte}
 use borrow.Author.Tests.{ltb-true, ltb-false}
-use lib.Pow.{pow_mono}
 use lib.ListN.{length, take, drop, get_or, drop_of_length-le}
 use lib.Seq.{drop-cons, take_all, take_at, drop_at}
 use Rattle.std.specs.Prelude.{if◌then◌else◌}
+use Rattle.std.proofs.Math.Pow.{shl_exact}
 use Rattle.ident.specs.Number.{Key, txid}
 use Rattle.words.specs.Words.{words}
 use Rattle.regions.specs.Rows.{quad_number}
@@ -153,16 +153,14 @@ module _ (w : List ℕ) {c e : ℕ} (h : Halved c e) where
 
 -- ---- weights
 
-pub weight-most : (j : ℕ) → j ≤ half_most → 2 ^ j ≤ 2 ^ half_most
-weight-most j h = pow_mono h
-
 pub one_most : (w : ℕ) (b : Bool) → w * one b ≤ w
 one_most w true = omega arith
 one_most w false = omega arith
 
-pub kept_weight : (w : ℕ) (b : Bool) {x : ℕ} → x ≡ bool_byte b → w * x ≡ w * one b
-kept_weight w true e = ap (λ (y : ℕ). w * y) e
-kept_weight w false e = ap (λ (y : ℕ). w * y) e
+-- the k-th bit, if b
+pub shifted : (k : ℕ) (b : Bool) {x : ℕ} → k < half_most → x ≡ bool_byte b → x * 2 ^ k % 2 ^ 64 ≡ 2 ^ k * one b
+shifted k true l e = rw e (shl_exact 1 k 64 (omega arith) (omega arith) ∙ omega arith)
+shifted k false l e = rw e (omega arith)
 
-pub weight_next : (from j w : ℕ) → from ≤ j → w ≡ 2 ^ (j - from) → w * 2 ≡ 2 ^ (j + 1 - from)
-weight_next from j w h e = let q : j + 1 - from ≡ suc (j - from) = omega arith in rw (q, pow-suc 2 (j - from), e)
+pub weight_next : (from j : ℕ) → from ≤ j → 2 ^ (j - from) * 2 ≡ 2 ^ (j + 1 - from)
+weight_next from j h = let q : j + 1 - from ≡ suc (j - from) = omega arith in rw (q, pow-suc 2 (j - from))

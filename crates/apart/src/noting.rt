@@ -61,11 +61,9 @@ fn announce_bits(
         (words q.new.listed.bytes) from to new.old.count (reserve_of q.old) (record { bits = result; waiting = new.new.count; reserve = reserve_of q.new }) }
 {
     let mut bits = 0;
-    let mut w = 1;
     for j in from..to {
         let kept = displacing::announce_further(s, p, new, q, j);
-        bits += w * u64::from(kept);
-        w = w * 2;
+        bits += u64::from(kept) << (j - from);
     }
     bits
 }

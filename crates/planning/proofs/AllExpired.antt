@@ -31,7 +31,6 @@ use Rattle.apart.proofs.OneOwner.{noted_none}
 use Rattle.apart.proofs.SpentStill.{victims-bare}
 use Rattle.failing.proofs.Leaving.{told}
 use Rattle.planning.specs.Expiring.{expire_one, due_from, DueNext, ExpiresAll}
-use Rattle.std.specs.Prelude as rust
 use Rattle.planning.proofs.BareDue.{due_from_bare}
 use Rattle.planning.proofs.Overdue.{due_cases, due_first, Expiring, expiring_start, expiring_end, expiring_more}
 

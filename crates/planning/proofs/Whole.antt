@@ -1,5 +1,5 @@
 -- The second phase of a plan: from the first key to the answer.
-use Prim.Native.Nat.{ℕ, min, ◌+◌, ◌-◌, ◌<◌, ◌≤◌}
+use Prim.Native.Nat.{ℕ, min, ◌+◌, ◌-◌, ◌*◌, ◌<◌, ◌≤◌}
 use mathlib.Core.Path.{◌≡◌, sym, subst, ◌∙◌}
 use mathlib.Core.List.{List, map}
 use mathlib.Core.Option.{Option}
@@ -8,6 +8,7 @@ use lib.ListN.{length, get_or, take}
 use lib.Seq.{length-take-le}
 use Rattle.std.proofs.lemmas.List.{get_or-take}
 use Rattle.ident.specs.Number.{Key}
+use Rattle.machine.specs.Call.{entry_bytes}
 use Rattle.machine.specs.Limits.{max_request_checks}
 use Rattle.machine.specs.State.{Entry, State, on_table, with_ready_cursor}
 use Rattle.machine.specs.Table.{keys}
@@ -143,11 +144,21 @@ module _ {b b₁ p p₁ : List ℕ} {now n : ℕ} {v w : Scan} (asked : Option (
       }))) in
       omega (arith, (x.goes st c g.stands).marks.count, few, sparse, q.fits, (sizes g.stands.marks.writes).limit)
 
+  -- what is selected can be written, and given back
+  pub few_left : ((st : State) → Sound st → Each KeyTyped (keys_for asked st)) → Begun now b p v → max_request_checks < length p → length p₁ ≡ length p
+      → (u : List ℕ) → entry_bytes * min (max_request_checks + 1) (limit_in b) ≤ length u
+      → Marked b₁ (take w.chosen p₁) (length (take w.chosen p₁)) × (length (take w.chosen p₁) ≤ max_request_checks + 1) × (entry_bytes * length (take w.chosen p₁) ≤ length u)
+  few_left typed g long kept u room =
+      let h : w.chosen ≤ length p₁ = omega (arith, x.most, kept, long) in
+      let n = front-long p₁ h in
+      (front_marked p₁ h (marked-after g), omega (arith, n, x.most), omega (arith, n, few_chosen typed g, room))
+
   -- what is left to do is the ready cursor
-  pub planned : {b₂ b₃ : List ℕ} (u : List ℕ) {u' : List ℕ} → Closed b₁ b₂ p₁ w.chosen u u'
+  pub planned : {b₂ b₃ : List ℕ} → max_request_checks < length p → length p₁ ≡ length p → (u : List ℕ) → {u' : List ℕ}
+      → Closed b₁ b₂ (take w.chosen p₁) (length (take w.chosen p₁)) u u'
       → ((st : State) (k : Option Key) → Stands w.last k → Writes b₂ st → Writes b₃ (with_ready_cursor (machine.cursor_after asked k st.ready_cursor) st))
       → AsksOf b b₃ p u u' now asked v (record { count = w.chosen; considered = w.considered })
-  planned {b₂} {b₃} u {u'} y z st c o =
+  planned {b₂} {b₃} long kept u {u'} y z st c o =
       let g = x.goes st c o in
-      let d = y now st (end st c).chosen g.sound g.marks in
+      let d = front_closed p₁ (omega (arith, x.most, kept, long)) u y now st (end st c).chosen g.sound g.marks in
       record { count = g.marks.count; entries = d.1; considered = g.considered; state = z st (end st c).last g.last d.0 }

@@ -17,7 +17,7 @@ use Rattle.choosing.specs.Choosing.{option_of}
 use Rattle.selecting.specs.declared.Scan.{Scan}
 use Rattle.planning.specs.declared.replying.Reply.{Reply}
 use Rattle.planning.specs.declared.plan.Planned.{Planned}
-use Rattle.selecting.specs.Selecting.{Fresh, Marks, Scanning}
+use Rattle.selecting.specs.Selecting.{Marks, Scanning}
 use Rattle.selecting.specs.Phasing.{given_keys}
 
 -- what a plan is asked for: the keys that given bytes hold, or all

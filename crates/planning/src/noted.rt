@@ -77,12 +77,10 @@ fn consider_noted(
     ensures { PlaceScans s.old s.new first.now m i picks.old picks.new clock.time v result }
 {
     let note = apart::slots::note_at(s, m, first, i);
-    let low = note.low;
-    let high = note.high;
-    if (low == 0) & (high == 0) {
+    if note == apart::slots::Note::NONE {
         return v;
     }
-    let mut slot = apart::slot_room();
+    let mut slot = [0; SLOT];
     apart::slots::load(s, m, first, i, &mut slot);
     let c = apart::noting::parents_in(&slot);
     consider_place(&mut s[..m], clock, &slot, c, note, picks, v)
@@ -125,6 +123,5 @@ pub fn phase_noted(
         × (v.considered + list_most * e ≤ half) }
     ensures { NotedPhased s.old s.new first.now m e picks.old picks.new clock.time v result }
 {
-    let w = selecting::phase::opened(v);
-    keys_noted(s, m, first, e, clock, picks, w)
+    keys_noted(s, m, first, e, clock, picks, v.opened())
 }

@@ -32,7 +32,7 @@ fn begin(
     ensures { Begins s.old s.new first.old first.new m c picks.new clock.time result }
 {
     let e = expiring::expire(s, m, first, c, clock.time);
-    let v = replying::fresh();
+    let v = selecting::Scan::fresh();
     let w = noted::phase_noted(s, m, first, e, clock, picks, v);
     apart::slots::forget(s, m, first, e);
     w
@@ -45,9 +45,9 @@ fn select(s: &mut [u8], clock: Clock, asked: Option<&[u8]>, out: &mut [u8]) -> r
 {
     let c = store::head::held_places(s);
     let m = apart::bare_bytes(s);
-    let mut first = apart::slot_room();
+    let mut first = [0; SLOT];
     apart::set_apart(s, m, &mut first);
-    let mut picks = replying::numbers();
+    let mut picks = [0; replying::MAX_SELECTED];
     let v = begin(s, m, &mut first, c, clock, &mut picks);
     let r = replying::ask(&mut s[..m], clock, asked, &mut picks, v, out);
     apart::put_back(s, m, &first, c);

@@ -1,12 +1,12 @@
 // The second phase of a plan, and its answer.
 ghost use Rattle.std.specs.Prelude.{min, ◌+◌, ◌*◌, ◌≤◌, ◌<◌, ◌≡◌, length};
-ghost use Rattle.std.proofs.Math.Option.{none, some};
 ghost use Rattle.machine.specs.Call.{entry_bytes};
 ghost use Rattle.machine.specs.Limits.{max_request_checks};
-ghost use Rattle.store.specs.Shown.{limit_in};
+ghost use Rattle.machine.specs.Typed.{Each, KeyTyped};
+ghost use Rattle.store.specs.Shown.{limit_in, Kept};
 ghost use Rattle.selecting.specs.Selecting.{Marked};
-ghost use Rattle.selecting.specs.Phasing.{given_keys};
-ghost use Rattle.planning.specs.Replying.{asked_in, Fresh, Closed, Begun, most_noted, AsksOf};
+ghost use Rattle.selecting.specs.Phasing.{key_count, given_keys, Phased};
+ghost use Rattle.planning.specs.Replying.{asked_in, Closed, Begun, most_noted, AsksOf};
 
 use machine::clock::Clock;
 use machine::limits::MAX_REQUEST_CHECKS;
@@ -18,109 +18,39 @@ pub struct Reply {
     pub considered: u64,
 }
 
-// Nothing selected, nothing considered.
-pub fn fresh() -> selecting::Scan
-    ensures { Fresh result }
-{
-    selecting::Scan {
-        chosen: 0,
-        considered: 0,
-        full: false,
-        last: None,
-    }
-}
-
-// The scan ends: the entries are written, sorted by priority, and what is marked is given back. (keys, order and sorted are scratch.)
-fn close(
-    s: &mut [u8],
-    picks: &[usize],
-    keys: &mut [u64],
-    order: &mut [usize],
-    sorted: &mut [usize],
-    out: &mut [u8],
-)
-    requires { Marked s.old picks.now (length picks.now) × ((length picks.now ≤ length keys.old) × (length picks.now ≤ length order.old) × (length picks.now ≤ length sorted.old))
-        × (entry_bytes * length picks.now ≤ length out.old) }
-    ensures { Closed s.old s.new picks.now (length picks.now) out.old out.new }
-{
-    let n = picks.len();
-    selecting::ordering::by_priority(s, picks, keys, order, sorted);
-    selecting::giving::put_entries(s, &sorted[..n], out);
-    selecting::giving::give_back(s, picks);
-}
-
 // The most that a plan selects: a phase stops behind a key, so one more than it stops at.
 pub const MAX_SELECTED: usize = MAX_REQUEST_CHECKS + 1;
 
-// Room for a number of each selection of a plan.
-pub fn numbers() -> [usize; MAX_SELECTED]
-    ensures { length result ≡ max_request_checks + 1 }
-{
-    [0usize; MAX_SELECTED]
-}
-
-// Room for a key of each. (One over the type would ask for the type's zero, and be longer than both.)
-fn sort_keys() -> [u64; MAX_SELECTED]
-    ensures { length result ≡ max_request_checks + 1 }
-{
-    [0u64; MAX_SELECTED]
-}
-
-// The same with scratch of its own.
+// The scan ends: the entries are written, sorted by priority, and what is marked is given back.
 fn finish(s: &mut [u8], picks: &[usize], out: &mut [u8])
     requires { Marked s.old picks.now (length picks.now) × (length picks.now ≤ max_request_checks + 1) × (entry_bytes * length picks.now ≤ length out.old) }
     ensures { Closed s.old s.new picks.now (length picks.now) out.old out.new }
 {
-    let mut keys = sort_keys();
-    let mut order = numbers();
-    let mut sorted = numbers();
-    close(s, picks, &mut keys, &mut order, &mut sorted, out);
+    let mut keys = [0; MAX_SELECTED];
+    let mut order = [0; MAX_SELECTED];
+    let mut sorted = [0; MAX_SELECTED];
+    selecting::ordering::by_priority(s, picks, &mut keys, &mut order, &mut sorted);
+    selecting::giving::put_entries(s, &sorted[..picks.len()], out);
+    selecting::giving::give_back(s, picks);
 }
 
-// Considers all keys after the ready cursor and round to it, after the scan v; the ready cursor becomes the last key considered. (`ask_given` has another phase, and leaves
-// the cursor: one for both would take the phase as a closure that writes the lent store, and test the cursor's part.)
-fn ask_round(
-    s: &mut [u8],
-    clock: Clock,
-    picks: &mut [usize],
-    v: selecting::Scan,
-    out: &mut [u8],
-) -> Reply
-    requires { Begun clock.time s.old picks.old v × (max_request_checks < length picks.old)
-        × (entry_bytes * min (max_request_checks + 1) (limit_in s.old) ≤ length out.old) × (v.considered ≤ most_noted) }
-    ensures { AsksOf s.old s.new picks.old out.old out.new clock.time none v result }
-{
-    let w = selecting::phase::phase_round(s, clock, picks, v);
-    finish(s, &picks[..w.chosen], out);
-    cursors::move_ready(s, w.last);
-    Reply {
-        count: w.chosen,
-        considered: w.considered,
-    }
-}
-
-// Considers the keys that the bytes hold, after the scan v; the ready cursor stays.
-fn ask_given(
+// The phase over the keys that the bytes hold. (By itself, for what its clauses say: of a slice that stands in an Option a proof knows neither that its items are
+// bytes nor how many they can be.)
+fn phase_given(
     s: &mut [u8],
     clock: Clock,
     given: &[u8],
     picks: &mut [usize],
     v: selecting::Scan,
-    out: &mut [u8],
-) -> Reply
-    requires { Begun clock.time s.old picks.old v × (max_request_checks < length picks.old)
-        × (entry_bytes * min (max_request_checks + 1) (limit_in s.old) ≤ length out.old) × (v.considered ≤ most_noted) }
-    ensures { AsksOf s.old s.new picks.old out.old out.new clock.time (some (given_keys given.now)) v result }
+) -> selecting::Scan
+    requires { Kept s.old × (max_request_checks < length picks.old) × (v.chosen ≤ max_request_checks) × (v.considered ≤ most_noted) }
+    ensures { Phased s.old s.new picks.old picks.new clock.time (λ st. given_keys given.now) v result (key_count given.now) × Each KeyTyped (given_keys given.now) }
 {
-    let w = selecting::phase::phase_given(s, clock, given, picks, v);
-    finish(s, &picks[..w.chosen], out);
-    Reply {
-        count: w.chosen,
-        considered: w.considered,
-    }
+    selecting::phase::phase_given(s, clock, given, picks, v)
 }
 
-// Considers the keys asked for after the scan v: those that given bytes hold, or all after the ready cursor and round to it.
+// Considers the keys asked for after the scan v: those that given bytes hold, and the ready cursor stays; or all after it and round to it, and it becomes the last key
+// considered.
 pub fn ask(
     s: &mut [u8],
     clock: Clock,
@@ -133,8 +63,16 @@ pub fn ask(
         × (entry_bytes * min (max_request_checks + 1) (limit_in s.old) ≤ length out.old) × (v.considered ≤ most_noted) }
     ensures { AsksOf s.old s.new picks.old out.old out.new clock.time (asked_in (λ g. g.now) asked.entry) v result }
 {
-    match asked {
-        Some(given) => ask_given(s, clock, given, picks, v, out),
-        None => ask_round(s, clock, picks, v, out),
+    let w = match asked {
+        Some(given) => phase_given(s, clock, given, picks, v),
+        None => selecting::phase::phase_round(s, clock, picks, v),
+    };
+    finish(s, &picks[..w.chosen], out);
+    if asked.is_none() {
+        cursors::move_ready(s, w.last);
+    }
+    Reply {
+        count: w.chosen,
+        considered: w.considered,
     }
 }

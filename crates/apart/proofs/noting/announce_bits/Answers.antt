@@ -1,9 +1,9 @@
 -- `apart::noting::announce_bits` meets its contract.
-use Prim.Native.Nat.{ℕ, ◌+◌, ◌-◌}
-use mathlib.Core.Path.{ap, ◌∙◌}
+use Prim.Native.Nat.{ℕ, ◌+◌, ◌-◌, ◌^◌}
+use mathlib.Core.Path.{sym, ap, ◌∙◌}
 use native.Mathlib.Omega.{arith}
 use Rattle.words.specs.Words.{words}
-use Rattle.apart.proofs.Notes.{weight-most, weight_next, one_most, kept_weight}
+use Rattle.apart.proofs.Notes.{weight_next, one_most, shifted}
 use Rattle.apart.proofs.InHalves.{way_supplies, way_goes, way-ends}
 use Rattle.apart.proofs.noting.announce_bits.Goals as goal
 
@@ -12,54 +12,26 @@ announce_further-kept-requires c = (
   way_supplies (words c.args.p.slot.now)
       c.args.p.connection.number c.args.p.clock
       c.args.from c.args.to
-      c.loop-j.invariant.5 c.requires.0,
-  c.loop-j.invariant.4,
+      c.loop-j.invariant.4 c.requires.0,
+  c.loop-j.invariant.3,
   omega (arith, c.loop-j-test.true, c.requires.4),
 )
 
-pub overflow_mul-w : goal.overflow_mul-w
-overflow_mul-w c = let x = weight-most (c.loop-j.j - c.args.from) (omega (
-  arith,
-  c.loop-j.invariant.0,
-  c.loop-j-test.true,
-  c.requires.3,
-)) in
-    omega (
-      arith,
-      x,
-      c.loop-j.invariant.2,
-      c.loop-j.invariant.3,
-    )
-
 pub loop-j-preserved : goal.loop-j-preserved
-loop-j-preserved c = (
-  (
-    omega (arith, c.loop-j.invariant.0),
-    omega
-        (arith, c.loop-j-test.true),
-  ),
-  c.announce_further-kept.auto.s ∙ c.loop-j.invariant.1,
-  weight_next c.args.from
-      c.loop-j.j
-      c.loop-j.w
-      c.loop-j.invariant.0.0
-      c.loop-j.invariant.2,
-  (let y = one_most c.loop-j.w
-      c.announce_further-kept.result in omega
-      (arith, y, kept_weight c.loop-j.w c.announce_further-kept.result c.from.ensures, c.loop-j.invariant.3)),
-  c.announce_further-kept.ensures.most,
-  way_goes (words c.args.p.slot.now)
-      c.args.p.connection.number
-      c.args.p.clock
-      c.args.from
-      c.args.to
-      c.loop-j.invariant.5
-      c.loop-j-test.true
-      c.announce_further-kept.ensures (ap (λ (x : ℕ). c.loop-j.bits + x) (kept_weight c.loop-j.w c.announce_further-kept.result c.from.ensures)),
-)
+loop-j-preserved c =
+    let k = c.loop-j.j - c.args.from in
+    let bit = shifted k c.announce_further-kept.result (omega (arith, c.loop-j.invariant.0, c.loop-j-test.true, c.requires.3)) c.from.ensures in
+    let next = weight_next c.args.from c.loop-j.j c.loop-j.invariant.0.0 in (
+      (omega (arith, c.loop-j.invariant.0), omega (arith, c.loop-j-test.true)),
+      c.announce_further-kept.auto.s ∙ c.loop-j.invariant.1,
+      (let y = one_most (2 ^ k) c.announce_further-kept.result in omega (arith, y, bit, next, c.loop-j.invariant.2)),
+      c.announce_further-kept.ensures.most,
+      rw (sym next) (way_goes (words c.args.p.slot.now) c.args.p.connection.number c.args.p.clock c.args.from c.args.to c.loop-j.invariant.4 c.loop-j-test.true
+          c.announce_further-kept.ensures (ap (λ (x : ℕ). c.loop-j.bits + x) bit)),
+    )
 
 pub returns : goal.returns
 returns c = way-ends (words c.args.p.slot.now) c.args.p.connection.number
     c.args.p.clock c.args.from
-    c.args.to c.loop-j.invariant.5 (omega (arith, c.loop-j.invariant.0, c.loop-j-test.false)) (omega
-    (arith, c.loop-j.invariant.4, c.loop-j.invariant.0)) c.loop-j.q.listed.few
+    c.args.to c.loop-j.invariant.4 (omega (arith, c.loop-j.invariant.0, c.loop-j-test.false)) (omega
+    (arith, c.loop-j.invariant.3, c.loop-j.invariant.0)) c.loop-j.q.listed.few

@@ -3,4 +3,4 @@ use Rattle.planning.proofs.Notings.{noted_phased}
 use Rattle.planning.proofs.noted.phase_noted.Goals as goal
 
 pub returns : goal.returns
-returns c = noted_phased c.opened-w.ensures c.keys_noted.ensures
+returns c = noted_phased c.opened.ensures c.keys_noted.ensures

@@ -15,7 +15,7 @@ ask-r-requires c =
     let k = c.requires.0 in
     let asked = asked_in (λ g. g.now) c.args.asked in (
       started asked late c.set_apart.ensures c.begin-v.ensures c.held_places-c.ensures.word k.state k.sound k.writes,
-      omega (arith, c.numbers-picks.ensures, c.begin-v.auto.picks),
+      omega (arith, c.begin-v.auto.picks),
       rw (limit_is asked late c.set_apart.ensures c.begin-v.ensures c.held_places-c.ensures.word k.state k.sound k.writes) c.requires.1,
       c.begin-v.ensures.near,
     )
