@@ -10,7 +10,7 @@ use lib.ListN.{length}
 use Rattle.ident.specs.Number.{top, Key, txid, wtxid, key_of}
 use Rattle.machine.specs.Limits.{Limits, max_peer_announcements, word}
 use Rattle.machine.specs.State.{Candidate, Entry, Table, State, Answer, limits_of, on_table, done}
-use Rattle.machine.specs.Table.{at, has, count, held_by, is_candidate}
+use Rattle.machine.specs.Table.{one, at, has, count, held_by, is_candidate}
 use Rattle.machine.specs.Announce.{push, announce_keyed, request_parent_at}
 use Rattle.machine.specs.Fail.{parent_of, mark}
 use Rattle.machine.specs.Sound.{Fits, Sound, Bounded}
@@ -28,6 +28,7 @@ use Rattle.announcing.specs.Answers.{Answered, one_parent}
 use Rattle.gathering.specs.declared.beside.Fare.{Fare}
 use Rattle.gathering.specs.declared.beside.Fare.TheVariants.{Nothing, Waits as Waiting, Alone}
 use Rattle.gathering.specs.contracts.beside.FarePartialEq.TheImpl.{eq-value}
+use Rattle.gathering.specs.Counted.{then_wait}
 use Rattle.gathering.proofs.Faring.{set-same}
 use Rattle.gathering.specs.Merges.{gathered}
 use Rattle.gathering.specs.Waits.{pushes, waits}
@@ -37,6 +38,19 @@ use Rattle.apart.specs.Noting.{parent_in, hashes_at}
 use Rattle.apart.specs.Waiting.{parent_entries, marks, waiting, Beside, Waits, LetIn, NextAt, WaitsWith, NextIn}
 use Rattle.apart.proofs.Marking.{Small, count-marks, sound-marks, push-marks, marks_more, entry_of, entries_more, entries-small, entries-else}
 use Rattle.apart.proofs.Notes.{hashes_next, hashes_none, hashes-long, hashes-parts}
+
+-- ---- how many wait
+
+pub counted_if : (d : ℕ) (r : Fare) {x : Bool} {e : ℕ} → x ≡ eq-value.it r Waiting → e ≡ then_wait d r → e ≡ d + one x
+counted_if d Nothing q g = rw q (omega (arith, g))
+counted_if d Waiting q g = rw q g
+counted_if d Alone q g = rw q (omega (arith, g))
+
+pub one_more : (d : ℕ) {e : ℕ} {x : Bool} → e ≡ d + one x → x ≡ true → e ≡ d + 1
+one_more d g q = rw q at g
+
+pub none_more : (d : ℕ) {e : ℕ} {x : Bool} → e ≡ d + one x → x ≡ false → e ≡ d
+none_more d {e} g q = let i : e ≡ d + 0 = rw q at g in omega (arith, i)
 
 -- ---- none waits
 

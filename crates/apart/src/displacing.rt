@@ -4,18 +4,18 @@ ghost use Rattle.std.specs.Prelude.{◌≡◌, true, ◌+◌, ◌-◌, ◌≤◌
 ghost use Rattle.ident.specs.Words.{hash_num};
 ghost use Rattle.words.specs.Words.{words};
 ghost use Rattle.places.specs.Places.{list_most};
+ghost use Rattle.machine.specs.Table.{one};
 ghost use Rattle.store.specs.Shown.{Kept};
 ghost use Rattle.announcing.specs.Falls.{most_listed};
-ghost use Rattle.gathering.specs.Aside.{space};
 ghost use Rattle.apart.specs.Waiting.{Waits};
 ghost use Rattle.apart.specs.Displacing.{reserve_of, unlisted, Lacks, Restocked, ShutOut, Unaided, Supplies, FurtherIn, FurtherAlone, SwapsWith, SpentIn};
 
 use crate::joining;
-use crate::joining::Waiting;
 use crate::parents::Parents;
 use announcing::foremost::Victims;
 use announcing::parents::offered;
 use gathering::beside::Fare;
+use gathering::rows::Waiting;
 use ident::connection::Connection;
 
 // What is known of the victims: the first that give way are listed, and of these so many have gone. `spent` is a property of the tracker by
@@ -42,10 +42,10 @@ impl Known {
         }
     }
 
-    // Whether victims are to be listed for the parents that are left: nothing is known of them, and L are held with the d that wait.
-    fn is_lacking(&self, s: &[u8], d: usize, left: usize) -> bool
-        requires { Kept s.now × (d ≤ space) }
-        ensures { Lacks s.now d left result }
+    // Whether victims are to be listed for the parents that are left: nothing is known of them, and L are held with those that wait.
+    fn is_lacking(&self, s: &[u8], new: &Waiting, left: usize) -> bool
+        requires { Kept s.now }
+        ensures { Lacks s.now new.now.count left result }
     {
         if left < FEW {
             return false;
@@ -53,15 +53,15 @@ impl Known {
         if self.spent | (self.gone < self.listed.count) {
             return false;
         }
-        gathering::beside::full(s, d)
+        gathering::beside::full(s, new.count)
     }
 
     // Lists victims for the parents that are left, if they are to be listed.
-    fn restock(&mut self, s: &[u8], d: usize, left: usize)
-        requires { Kept s.now × (d ≤ space) × (left ≤ most_listed) }
-        ensures { Restocked s.now (words self.old.listed.bytes) (words self.new.listed.bytes) d (reserve_of self.old) (reserve_of self.new) }
+    fn restock(&mut self, s: &[u8], new: &Waiting, left: usize)
+        requires { Kept s.now × (left ≤ most_listed) }
+        ensures { Restocked s.now (words self.old.listed.bytes) (words self.new.listed.bytes) new.now.count (reserve_of self.old) (reserve_of self.new) }
     {
-        if !self.is_lacking(s, d, left) {
+        if !self.is_lacking(s, new, left) {
             return;
         }
         self.listed.list(s, left);
@@ -78,15 +78,14 @@ fn swap_with(s: &mut [u8], p: Parents, new: &mut Waiting, q: &Known, j: usize) -
     requires { Supplies (words p.slot.now) p.connection.number p.clock s.old (words new.old.bytes) (words q.now.listed.bytes) (j - new.old.count) new.old.count (reserve_of q.now)
         × (new.old.count ≤ j) × (j < list_most) }
     ensures { SwapsWith (words p.entry.slot.now) p.entry.connection.number p.entry.clock s.old s.new (words new.old.bytes) (words new.new.bytes) (words q.now.listed.bytes) j
-        new.old.count (reserve_of q.now) result × (new.new.count ≡ new.old.count) }
+        new.old.count (reserve_of q.now) result × (new.new.count ≡ new.old.count + one result) }
 {
     if q.gone >= q.listed.count {
         return false;
     }
     let h = p.hash(j);
     let c = offered(h, p.connection.number, p.clock, j as u64);
-    let m = new.count;
-    gathering::instead::exchange(s, &mut new.bytes, m, &q.listed, q.gone, c) == Fare::Waits
+    new.exchange(s, &q.listed, q.gone, c) == Fare::Waits
 }
 
 // Whether L are held and the connection n has not announced the hash h: it comes in only for a victim.
@@ -117,20 +116,20 @@ fn announce_spent(s: &mut [u8], p: Parents, new: &mut Waiting, j: usize) -> bool
     ensures { SpentIn (words p.entry.slot.now) p.entry.connection.number p.entry.clock s.old s.new (words new.old.bytes) (words new.new.bytes) j new.old.count result
         × (new.new.count ≡ 0) }
 {
-    new.let_in(s, p.slot, p.connection.number, p.clock, j);
+    joining::let_in(s, new, p.slot, p.connection.number, p.clock, j);
     let h = p.hash(j);
     announce_unaided(s, p.connection, p.clock, h, j as u64)
 }
 
-// Whether a victim would be looked for in vain: L are held with the m that wait, and nobody can be evicted.
-fn is_hopeless(s: &[u8], m: usize, q: &Known) -> bool
-    requires { Kept s.now × (m ≤ space) }
+// Whether a victim would be looked for in vain: L are held with those that wait, and nobody can be evicted.
+fn is_hopeless(s: &[u8], new: &Waiting, q: &Known) -> bool
+    requires { Kept s.now }
     ensures { result ≡ true → q.now.spent ≡ true }
 {
     if !q.spent {
         return false;
     }
-    gathering::beside::full(s, m)
+    gathering::beside::full(s, new.count)
 }
 
 // Announces the j-th parent beside those that wait, where no victim is listed.
@@ -139,7 +138,7 @@ fn announce_unlisted(s: &mut [u8], p: Parents, new: &mut Waiting, q: &Known, j: 
     ensures { FurtherAlone (words p.entry.slot.now) p.entry.connection.number p.entry.clock s.old s.new (words new.old.bytes) (words new.new.bytes) j new.old.count
         (unlisted q.now.spent) (record { kept = result; waiting = new.new.count; reserve = unlisted q.now.spent }) }
 {
-    if is_hopeless(s, new.count, q) {
+    if is_hopeless(s, new, q) {
         return announce_spent(s, p, new, j);
     }
     joining::announce_next(s, p, new, j)
@@ -158,9 +157,8 @@ pub fn announce_further(
     ensures { FurtherIn (words p.entry.slot.now) p.entry.connection.number p.entry.clock s.old s.new (words new.old.bytes) (words new.new.bytes) (words q.old.listed.bytes)
         (words q.new.listed.bytes) j new.old.count (reserve_of q.old) (record { kept = result; waiting = new.new.count; reserve = reserve_of q.new }) }
 {
-    q.restock(s, new.count, p.count - j);
+    q.restock(s, new, p.count - j);
     if swap_with(s, p, new, q, j) {
-        new.count += 1;
         q.gone += 1;
         q.spent = false;
         return true;

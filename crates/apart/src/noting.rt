@@ -8,10 +8,10 @@ ghost use Rattle.apart.specs.Noting.{parent_in, hashes_at, ParentsIn, half_most,
 ghost use Rattle.apart.specs.Displacing.{reserve_of, Supplies, HalfIn};
 
 use crate::displacing::Known;
-use crate::joining::Waiting;
 use crate::parents::Parents;
 use crate::slots::Note;
-use crate::{SLOT, displacing};
+use crate::{SLOT, displacing, joining};
+use gathering::rows::Waiting;
 use machine::limits::MAX_PARENTS;
 
 // Half of a place's parents.
@@ -79,7 +79,7 @@ pub fn announce_all(s: &mut [u8], p: Parents, spent: bool) -> Announced
     let e = first_half(p.count);
     let low = announce_bits(s, p, &mut new, &mut q, 0, e);
     let high = announce_bits(s, p, &mut new, &mut q, e, p.count);
-    new.let_in(s, p.slot, p.connection.number, p.clock, p.count);
+    joining::let_in(s, &mut new, p.slot, p.connection.number, p.clock, p.count);
     Announced {
         note: Note { low, high },
         spent: q.spent,

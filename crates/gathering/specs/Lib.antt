@@ -3,3 +3,4 @@ pub mod Merges
 pub mod Aside
 pub mod Exchanges
 pub mod Deferring
+pub mod Counted

@@ -14,7 +14,7 @@ use Rattle.ident.specs.Number.{Item}
 use Rattle.words.specs.Words.{words}
 use Rattle.machine.specs.Limits.{Limits, max_in_flight}
 use Rattle.machine.specs.State.{State, Table, limits_of, on_table}
-use Rattle.machine.specs.Table.{one, owned_by}
+use Rattle.machine.specs.Table.{owned_by}
 use Rattle.machine.specs.Wrapper.{Offer, is_w_tx, offers_from, announce_transactions}
 use Rattle.machine.specs.Sound.{Sound}
 use Rattle.machine.specs.Typed.{Each, OfferTyped}

@@ -1,7 +1,7 @@
 -- Offers collected beside the store, one after the other, and announced together.
 use Prim.Native.Nat.{ℕ, ◌+◌, ◌≤◌, ◌<◌}
 use mathlib.Core.Path.{◌≡◌, refl, sym, ap, subst, ◌∙◌}
-use mathlib.Core.Bool.{Bool}
+use mathlib.Core.Bool.{Bool, false}
 use mathlib.Core.List.{List, []}
 use native.Mathlib.Omega.{arith}
 use lib.ListN.{length, get_or}
@@ -15,6 +15,7 @@ use Rattle.machine.specs.Sound.{Sound}
 use Rattle.machine.specs.Typed.{Each, OfferTyped}
 use Rattle.machine.proofs.Fail.{Peer}
 use Rattle.machine.proofs.Kept.{sound-table}
+use Rattle.machine.proofs.Tests.{never}
 use Rattle.machine.proofs.Wrapper.{bounded-offers}
 use Rattle.store.specs.Image.{Writes}
 use Rattle.store.specs.Shown.{Kept}
@@ -22,7 +23,9 @@ use Rattle.store.proofs.Counts.{held-rows}
 use Rattle.requests.proofs.Keeping.{sized_of}
 use Rattle.announcing.specs.Answers.{Answered}
 use Rattle.gathering.specs.declared.beside.Fare.{Fare}
-use Rattle.gathering.specs.declared.beside.Fare.TheVariants.{Nothing, Waits}
+use Rattle.gathering.specs.declared.beside.Fare.TheVariants.{Nothing, Waits, Alone}
+use Rattle.gathering.specs.contracts.beside.FarePartialEq.TheImpl.{eq-value}
+use Rattle.gathering.specs.Counted.{then_wait}
 use Rattle.gathering.specs.Merges.{gathered}
 use Rattle.gathering.specs.Waits.{pushes}
 use Rattle.gathering.specs.Aside.{space, Empty, JoinedIn, SetAside, ComeIn}
@@ -82,12 +85,20 @@ module _ {b w : List ℕ} {a : Terms} {os : List Offer} {i j d : ℕ} (x : Colle
   }
 
   -- it changes nothing
-  pub collects_not : r ≡ Nothing → Collects b w' a os i (j + 1) d
+  collects_not : r ≡ Nothing → Collects b w' a os i (j + 1) d
   collects_not e = grown (one_aside.nothing e).joined x.few
 
   -- it waits with them
-  pub collects_more : r ≡ Waits → Collects b w' a os i (j + 1) (d + 1)
+  collects_more : r ≡ Waits → Collects b w' a os i (j + 1) (d + 1)
   collects_more e = let z = one_aside.waits e in grown z.joined (omega (arith, z.spare))
+
+module _ {b w : List ℕ} {a : Terms} {os : List Offer} {i j d : ℕ} (x : Collects b w a os i j d) (l : j < length os) {c : Candidate} (q : Offers a os j c) {w' : List ℕ} where
+  -- one offer that is not to be announced by itself
+  pub collects_next : (r : Fare) {z : Bool} {e : ℕ} → z ≡ eq-value.it r Alone → z ≡ false → e ≡ then_wait d r → SetAside b w w' d (key_of c.item) c r
+      → Collects b w' a os i (j + 1) e
+  collects_next Nothing u f g y = rw g (collects_not x l q y refl)
+  collects_next Waits u f g y = rw g (collects_more x l q y refl)
+  collects_next Alone u f g y = never (sym f ∙ u)
 
 -- ---- coming in
 

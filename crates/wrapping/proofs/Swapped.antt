@@ -1,7 +1,7 @@
 -- Offers announced where L is held, one after the other: those that come in wait, and as many victims go.
 use Prim.Native.Nat.{ℕ, ◌+◌, ◌≤◌, ◌<◌}
 use mathlib.Core.Path.{◌≡◌, refl, sym, ap, subst, ◌∙◌}
-use mathlib.Core.Bool.{true}
+use mathlib.Core.Bool.{Bool, true, false}
 use mathlib.Core.List.{List, [], ◌∷◌}
 use native.Mathlib.Omega.{arith}
 use lib.ListN.{length}
@@ -14,13 +14,16 @@ use Rattle.machine.specs.Wrapper.{Offer, offered, offers_from}
 use Rattle.machine.specs.Sound.{Sound}
 use Rattle.machine.specs.Typed.{Each, OfferTyped}
 use Rattle.machine.proofs.Fail.{Peer}
+use Rattle.machine.proofs.Tests.{never}
 use Rattle.store.specs.Flat.{rows_of}
 use Rattle.store.specs.Image.{Writes}
 use Rattle.store.specs.Shown.{Kept}
 use Rattle.announcing.specs.Falls.{fallen, cuts, VictimsIn, Evictable}
 use Rattle.announcing.proofs.Nobody.{nobody-listed, nobody-keyed}
 use Rattle.gathering.specs.declared.beside.Fare.{Fare}
-use Rattle.gathering.specs.declared.beside.Fare.TheVariants.{Nothing, Waits}
+use Rattle.gathering.specs.declared.beside.Fare.TheVariants.{Nothing, Waits, Alone}
+use Rattle.gathering.specs.contracts.beside.FarePartialEq.TheImpl.{eq-value}
+use Rattle.gathering.specs.Counted.{then_wait}
 use Rattle.gathering.specs.Merges.{gathered}
 use Rattle.gathering.specs.Waits.{pushes}
 use Rattle.gathering.specs.Aside.{space, Empty, Gathers, ComeIn}
@@ -93,12 +96,19 @@ module _ {b w v : List ℕ} {m : ℕ} {a : Terms} {os : List Offer} {i j d : ℕ
     }
 
     -- it changes nothing
-    pub swaps_not : r ≡ Nothing → Swaps b w' v m a os i (j + 1) d
+    swaps_not : r ≡ Nothing → Swaps b w' v m a os i (j + 1) d
     swaps_not e = grown (one_deferred.nothing e) x.few x.less
 
     -- it comes in
-    pub swaps_more : r ≡ Waits → Swaps b w' v m a os i (j + 1) (d + 1)
+    swaps_more : r ≡ Waits → Swaps b w' v m a os i (j + 1) (d + 1)
     swaps_more e = let z = one_deferred.waits e in grown z.owed (omega (arith, z.spare.0)) (omega (arith, z.spare.1))
+
+  -- one that is not to be announced by itself
+  pub swaps_next : j < length os → {c : Candidate} → Offers a os j c → {w' : List ℕ} (r : Fare) {z : Bool} {e : ℕ} → z ≡ eq-value.it r Alone → z ≡ false → e ≡ then_wait d r
+      → Deferred b w w' v d m (key_of c.item) c r → Swaps b w' v m a os i (j + 1) e
+  swaps_next l q Nothing u f g y = rw g (swaps_not l q y refl)
+  swaps_next l q Waits u f g y = rw g (swaps_more l q y refl)
+  swaps_next l q Alone u f g y = never (sym f ∙ u)
 
   -- ---- the victims go, and those that wait come in
 

@@ -2,26 +2,24 @@
 ghost use Rattle.std.specs.Prelude.{◌≡◌, true, ◌+◌, ◌*◌, ◌≤◌, ◌<◌, leb, length};
 ghost use Rattle.ident.specs.Words.{item_num};
 ghost use Rattle.words.specs.Words.{words};
-ghost use Rattle.regions.specs.Rows.{row_size};
 ghost use Rattle.machine.specs.Limits.{max_in_flight, source_delay};
 ghost use Rattle.machine.specs.Table as table;
 ghost use Rattle.machine.specs.Wrapper as machine;
 ghost use Rattle.store.specs.Shown.{Kept};
 ghost use Rattle.lent_lists.specs.Items.{offers_in};
 ghost use Rattle.requests.specs.Changes.{candidate_of, Tells};
-ghost use Rattle.announcing.specs.Falls.{most_listed, VictimsIn};
-ghost use Rattle.gathering.specs.Aside.{space, Empty};
+ghost use Rattle.announcing.specs.Falls.{VictimsIn};
+ghost use Rattle.gathering.specs.Aside.{Empty};
 ghost use Rattle.claims.specs.Changes.{Becomes};
 ghost use Rattle.wrapping.specs.Batches.{between, announced, Bytes, Offers, Collects, Announced};
 ghost use Rattle.wrapping.specs.Swaps.{Whole, Swaps, Went, Settled};
 
 use announcing::foremost::Victims;
 use gathering::beside::Fare;
-use gathering::region::ROOM;
+use gathering::rows::Waiting;
 use ident::connection::Connection;
 use machine::clock::Clock;
 use machine::limits::{MAX_PEER_IN_FLIGHT, SOURCE_DELAY};
-use regions::Row;
 use regions::listed::Records;
 
 // What holds of every item of a batch. source: a wtxid source exists; late: the connection owned as many requests as it may before. (Each of
@@ -105,37 +103,18 @@ fn announce_one(s: &mut [u8], b: Batch, i: usize)
     announcing::announce(s, c);
 }
 
-// Where a part of a batch ends, and how many of it wait: at the front of an array of the caller's, which lends it from step to step.
-#[derive(Clone, Copy)]
-struct Part {
-    next: usize,
-    waiting: usize,
-}
-
-// Collects in `new`, which is empty, the rows of the items from the first on that can come in together.
-fn collect(s: &[u8], new: &mut [u8], b: Batch, first: usize) -> Part
-    requires { Kept s.now × (8 * (row_size * space) ≤ length new.old) × Empty (words new.old) × (first ≤ length (offers_in b.items.now b.priorities.now)) }
-    ensures { Collects s.now (words new.new) b.entry.terms (offers_in b.entry.items.now b.entry.priorities.now) first result.next result.waiting }
+// Collects in `new`, which is empty, the rows of the items from the first on that can come in together. Answers which item is the first that cannot, or how many there are.
+fn collect(s: &[u8], new: &mut Waiting, b: Batch, first: usize) -> usize
+    requires { Kept s.now × Empty (words new.old.bytes) × (new.old.count ≡ 0) × (first ≤ length (offers_in b.items.now b.priorities.now)) }
+    ensures { Collects s.now (words new.new.bytes) b.entry.terms (offers_in b.entry.items.now b.entry.priorities.now) first result new.new.count }
 {
     let count = b.count();
-    let mut m = 0;
     for i in first..count {
-        let c = offered_at(b, i);
-        match gathering::beside::set_aside(s, new, m, c) {
-            Fare::Nothing => {}
-            Fare::Waits => m += 1,
-            Fare::Alone => {
-                return Part {
-                    next: i,
-                    waiting: m,
-                };
-            }
+        if new.set_aside(s, offered_at(b, i)) == Fare::Alone {
+            return i;
         }
     }
-    Part {
-        next: count,
-        waiting: m,
-    }
+    count
 }
 
 // With fewer items a pass over the rows costs more than it spares.
@@ -152,11 +131,13 @@ fn announce_some(s: &mut [u8], b: Batch, first: usize) -> usize
         announce_one(s, b, first);
         return first + 1;
     }
-    let mut new = [0u8; ROOM];
-    gathering::region::clear(&mut new);
-    let p = collect(s, &mut new, b, first);
-    gathering::coming::come_in(s, b.terms.connection.number, Records::new(&new, p.waiting));
-    let next = p.next;
+    let mut new = Waiting::none();
+    let next = collect(s, &mut new, b, first);
+    gathering::coming::come_in(
+        s,
+        b.terms.connection.number,
+        Records::new(&new.bytes, new.count),
+    );
     if next < count {
         announce_one(s, b, next);
         return next + 1;
@@ -179,55 +160,38 @@ fn displaces(s: &[u8], b: Batch, first: usize) -> bool
     !announcing::keyed::crowded(s, item.hash) && gathering::beside::full(s, 0)
 }
 
-// How many victims are listed.
-fn at_most(n: usize) -> usize
-    requires { 1 ≤ n }
-    ensures { (1 ≤ result) × (result ≤ most_listed) }
-{
-    n.min(announcing::foremost::MOST)
-}
-
 // Announces items from the first on, with the store left as it is: each that comes in waits in `new`, which is empty, and the next of the
-// victims listed in `top` is to go. (The loop is `collect`'s: one of both would take as a closure what lets an item in, and ask of it in clauses how what stands so far,
-// which is not the same for the two, goes on at each Fare: longer than the loop.)
-fn swap(s: &[u8], new: &mut [u8], top: &Victims, b: Batch, first: usize) -> Part
+// victims listed in `top` is to go. Answers which item comes next. (The loop is `collect`'s: one of both would take as a closure what lets an item in, and ask of it in
+// clauses how what stands so far, which is not the same for the two, goes on at each Fare: longer than the loop.)
+fn swap(s: &[u8], new: &mut Waiting, top: &Victims, b: Batch, first: usize) -> usize
     requires { Kept s.now × Whole s.now × VictimsIn s.now (words top.now.bytes) top.now.count
-        × (8 * (row_size * space) ≤ length new.old) × Empty (words new.old) × (first ≤ length (offers_in b.items.now b.priorities.now)) }
-    ensures { Swaps s.now (words new.new) (words top.now.bytes) top.now.count b.entry.terms (offers_in b.entry.items.now b.entry.priorities.now) first result.next result.waiting }
+        × Empty (words new.old.bytes) × (new.old.count ≡ 0) × (first ≤ length (offers_in b.items.now b.priorities.now)) }
+    ensures { Swaps s.now (words new.new.bytes) (words top.now.bytes) top.now.count b.entry.terms (offers_in b.entry.items.now b.entry.priorities.now) first result new.new.count }
 {
     let count = b.count();
-    let mut d = 0;
     for i in first..count {
-        let c = offered_at(b, i);
-        match gathering::deferred::defer(s, new, d, top, c) {
-            Fare::Nothing => {}
-            Fare::Waits => d += 1,
-            Fare::Alone => {
-                return Part {
-                    next: i,
-                    waiting: d,
-                };
-            }
+        if new.defer(s, top, offered_at(b, i)) == Fare::Alone {
+            return i;
         }
     }
-    Part {
-        next: count,
-        waiting: d,
-    }
+    count
 }
 
-// Announces items from the first on: those that come in wait, then the victims go, and one more pass lets in those that have waited.
-fn settle(s: &mut [u8], top: &Victims, b: Batch, first: usize) -> Part
+// Announces items from the first on: those that come in wait in `new`, which is empty, then the victims go, and one more pass lets in those that have waited. Answers
+// which item comes next.
+fn settle(s: &mut [u8], new: &mut Waiting, top: &Victims, b: Batch, first: usize) -> usize
     requires { Kept s.old × Whole s.old × VictimsIn s.old (words top.now.bytes) top.now.count
-        × (first ≤ length (offers_in b.items.now b.priorities.now)) }
-    ensures { Settled s.old s.new top.now.count b.entry.terms (offers_in b.entry.items.now b.entry.priorities.now) first result.next result.waiting }
+        × Empty (words new.old.bytes) × (new.old.count ≡ 0) × (first ≤ length (offers_in b.items.now b.priorities.now)) }
+    ensures { Settled s.old s.new top.now.count b.entry.terms (offers_in b.entry.items.now b.entry.priorities.now) first result new.new.count }
 {
-    let mut new = [0u8; ROOM];
-    gathering::region::clear(&mut new);
-    let p = swap(s, &mut new, top, b, first);
-    gathering::going::go(s, top, p.waiting);
-    gathering::coming::come_in(s, b.terms.connection.number, Records::new(&new, p.waiting));
-    p
+    let next = swap(s, new, top, b, first);
+    gathering::going::go(s, top, new.count);
+    gathering::coming::come_in(
+        s,
+        b.terms.connection.number,
+        Records::new(&new.bytes, new.count),
+    );
+    next
 }
 
 // Announces some items from the first on, or none: the victims are found in one pass. Where nobody is left who can be evicted the other
@@ -238,17 +202,18 @@ fn announce_for_victims(s: &mut [u8], b: Batch, first: usize) -> usize
 {
     let count = b.count();
     let mut top = Victims::none();
-    let most = at_most(count - first);
+    let most = (count - first).min(announcing::foremost::MOST);
     top.list(s, most);
     let m = top.count;
     if m == 0 {
         return count;
     }
-    let p = settle(s, &top, b, first);
-    if (p.waiting == m) & (m < most) {
+    let mut new = Waiting::none();
+    let next = settle(s, &mut new, &top, b, first);
+    if (new.count == m) & (m < most) {
         return count;
     }
-    p.next
+    next
 }
 
 // Announces items from the first on, one at least. Answers which comes next.

@@ -1,13 +1,13 @@
 -- `apart::joining::announce_next` meets its contract.
 use native.Mathlib.Omega.{arith}
-use Rattle.apart.proofs.Alongside.{next_alone, let_kept, waits_same}
+use Rattle.apart.proofs.Alongside.{next_alone, let_kept, waits_same, none_more}
 use Rattle.announcing.proofs.Lent.{hash_low, peer_of}
 use Rattle.apart.proofs.joining.announce_next.Goals as goal
 
 pub announce_parent-requires : goal.announce_parent-requires
-announce_parent-requires c = let_kept c.let_in.ensures.0 (rw c.wait_with.ensures.1 (waits_same (c.wait_with.ensures.0.alone c.if-wait_with.false) c.requires.0))
+announce_parent-requires c = let_kept c.let_in.ensures.0 (rw (none_more c.args.new.now.count c.wait_with.ensures.1 c.if-wait_with.false) (waits_same (c.wait_with.ensures.0.alone c.if-wait_with.false) c.requires.0))
 
 pub returns : goal.returns
 returns c = rw c.let_in.ensures.1 (next_alone (peer_of c.args.p.connection (omega arith)) (omega arith) (omega (arith, c.requires.2)) c.requires.1
     (hash_low c.hash-h.result c.hash-h.type_inv) c.hash-h.ensures (c.wait_with.ensures.0.alone c.if-wait_with.false)
-    (rw c.wait_with.ensures.1 at c.let_in.ensures.0) c.announce_parent.ensures)
+    (rw (none_more c.args.new.now.count c.wait_with.ensures.1 c.if-wait_with.false) at c.let_in.ensures.0) c.announce_parent.ensures)

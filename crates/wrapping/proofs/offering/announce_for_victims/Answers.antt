@@ -10,7 +10,7 @@ returns-then-m-eq0 c = went-nobody c.args.b.terms (offers_in
     c.args.b.priorities.now)
     c.args.first
     c.requires.1 (c.list.ensures.2 (omega
-    (arith, c.if-m-eq0.true, c.at_most-most.ensures.0))) c.if-m-eq0.true
+    (arith, c.if-m-eq0.true, c.min-most.ensures))) c.if-m-eq0.true
     c.requires.2
     c.requires.3
     c.count-count.ensures

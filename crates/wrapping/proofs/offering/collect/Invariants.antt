@@ -1,10 +1,8 @@
 -- `wrapping::offering::collect` meets its contract.
-use mathlib.Core.Path.{◌≡◌}
-use lib.ListN.{length}
 use Rattle.words.specs.Words.{words}
 use Rattle.lent_lists.specs.Items.{offers_in}
 use Rattle.wrapping.specs.Batches.{Collects}
 use Rattle.wrapping.proofs.offering.collect.Given as goal
 
 abbrev pub invariant-loop-i : goal.invariant-loop-i
-invariant-loop-i l = Collects l.s (words l.new) l.b.terms (offers_in l.b.items.now l.b.priorities.now) l.first l.i l.m × (length l.new ≡ length l.initial.new)
+invariant-loop-i l = Collects l.s (words l.new.bytes) l.b.terms (offers_in l.b.items.now l.b.priorities.now) l.first l.i l.new.count

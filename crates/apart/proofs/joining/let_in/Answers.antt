@@ -1,8 +1,8 @@
--- `apart::joining::Waiting::let_in` meets its contract.
+-- `apart::joining::let_in` meets its contract.
 use mathlib.Core.Path.{refl}
 use native.Mathlib.Omega.{arith}
 use Rattle.apart.proofs.Alongside.{came_kept, let-in}
-use Rattle.apart.proofs.joining.Waiting.let_in.Goals as goal
+use Rattle.apart.proofs.joining.let_in.Goals as goal
 
 pub mark_parents-requires : goal.mark_parents-requires
 mark_parents-requires c = (

@@ -1,0 +1,83 @@
+// The rows that wait beside the store, as a value: a region of their own, and how many stand at its front. What is announced beside them is counted with them if it
+// waits.
+ghost use Rattle.std.specs.Prelude.{◌≡◌, ◌≤◌, ◌<◌};
+ghost use Rattle.ident.specs.Number.{key_of};
+ghost use Rattle.ident.specs.Words.{item_num};
+ghost use Rattle.words.specs.Words.{words};
+ghost use Rattle.store.specs.Shown.{Kept};
+ghost use Rattle.requests.specs.Changes.{candidate_of};
+ghost use Rattle.gathering.specs.declared.beside.Fare.TheVariants.{Waits};
+ghost use Rattle.gathering.specs.Aside.{space, Empty, SetAside};
+ghost use Rattle.gathering.specs.Deferring.{Deferred};
+ghost use Rattle.gathering.specs.Exchanges.{Underway, Exchanged};
+ghost use Rattle.gathering.specs.Counted.{then_wait};
+
+use crate::beside::Fare;
+use crate::region::ROOM;
+use crate::{beside, deferred, instead, region};
+use announcing::foremost::Victims;
+use requests::Candidate;
+
+#[derive(Drop)]
+pub struct Waiting {
+    pub bytes: [u8; ROOM],
+    pub count: usize,
+    ghost few: { count ≤ space },
+}
+
+impl Waiting {
+    pub fn none() -> Self
+        ensures { (result.count ≡ 0) × Empty (words result.bytes) }
+    {
+        let mut new = Waiting {
+            bytes: [0; ROOM],
+            count: 0,
+        };
+        region::clear(&mut new.bytes);
+        new
+    }
+
+    // One that fares so is counted, if it waits.
+    fn count_in(&mut self, fare: Fare) -> Fare
+        requires { fare ≡ Waits → self.old.count < space }
+        ensures { (result ≡ fare) × (self.new.bytes ≡ self.old.bytes) × (self.new.count ≡ then_wait self.old.count fare) }
+    {
+        if fare == Fare::Waits {
+            self.count += 1;
+        }
+        fare
+    }
+
+    // c is announced beside them: `beside::set_aside`.
+    pub fn set_aside(&mut self, s: &[u8], c: Candidate) -> Fare
+        requires { Kept s.now }
+        ensures { SetAside s.now (words self.old.bytes) (words self.new.bytes) self.old.count (key_of (item_num c.item)) (candidate_of c) result
+            × (self.new.count ≡ then_wait self.old.count result) }
+    {
+        let m = self.count;
+        let fare = beside::set_aside(s, &mut self.bytes, m, c);
+        self.count_in(fare)
+    }
+
+    // The same where L are held and nobody goes yet: `deferred::defer`.
+    pub fn defer(&mut self, s: &[u8], top: &Victims, c: Candidate) -> Fare
+        requires { Kept s.now }
+        ensures { Deferred s.now (words self.old.bytes) (words self.new.bytes) (words top.now.bytes) self.old.count top.now.count (key_of (item_num c.item)) (candidate_of c) result
+            × (self.new.count ≡ then_wait self.old.count result) }
+    {
+        let m = self.count;
+        let fare = deferred::defer(s, &mut self.bytes, m, top, c);
+        self.count_in(fare)
+    }
+
+    // The same where the p-th victim listed goes at once: `instead::exchange`.
+    pub fn exchange(&mut self, s: &mut [u8], top: &Victims, p: usize, c: Candidate) -> Fare
+        requires { Underway s.old (words self.old.bytes) (words top.now.bytes) c.connection self.old.count p top.now.count }
+        ensures { Exchanged s.old s.new (words self.old.bytes) (words self.new.bytes) (words top.now.bytes) self.old.count p top.now.count (key_of (item_num c.item))
+            (candidate_of c) result × (self.new.count ≡ then_wait self.old.count result) }
+    {
+        let m = self.count;
+        let fare = instead::exchange(s, &mut self.bytes, m, top, p, c);
+        self.count_in(fare)
+    }
+}
