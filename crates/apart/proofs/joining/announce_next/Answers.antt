@@ -5,7 +5,8 @@ use Rattle.announcing.proofs.Lent.{hash_low, peer_of}
 use Rattle.apart.proofs.joining.announce_next.Goals as goal
 
 pub announce_parent-requires : goal.announce_parent-requires
-announce_parent-requires c = let_kept c.let_in.ensures.0 (rw (none_more c.args.new.now.count c.wait_with.ensures.1 c.if-wait_with.false) (waits_same (c.wait_with.ensures.0.alone c.if-wait_with.false) c.requires.0))
+announce_parent-requires c = let_kept c.let_in.ensures.0
+    (rw (none_more c.args.new.now.count c.wait_with.ensures.1 c.if-wait_with.false) (waits_same (c.wait_with.ensures.0.alone c.if-wait_with.false) c.requires.0))
 
 pub returns : goal.returns
 returns c = rw c.let_in.ensures.1 (next_alone (peer_of c.args.p.connection (omega arith)) (omega arith) (omega (arith, c.requires.2)) c.requires.1
