@@ -3,7 +3,7 @@ use Prim.Native.Nat.{ℕ, zero, suc, ◌+◌, ◌-◌, ◌≤◌, ◌<◌}
 use mathlib.Core.Path.{◌≡◌, refl, ap}
 use mathlib.Core.Bool.{Bool, true, false, cond, ◌&&◌}
 use mathlib.Core.Logic.{inl, inr}
-use mathlib.Core.List.{List, [], ◌∷◌}
+use mathlib.Core.List.{List, [], ◌∷◌, map}
 use native.Mathlib.Numerals.{add-one}
 use native.Mathlib.Omega.{arith}
 use lib.Dec.{eqb, ltb, leb}
@@ -13,9 +13,10 @@ use borrow.Author.Tests.{lt-ltb, le-ltb, ltb-true, ltb-false}
 use Rattle.std.specs.Prelude.{if◌then◌else◌, Option, Some, None, MatchOption}
 use Rattle.std.specs.List.{position, position_or_len, list_all}
 use Rattle.std.proofs.lemmas.List.Recursion.{is_position_or_len}
+use Rattle.std.proofs.lemmas.Iterator.{YieldsList}
 use Rattle.machine.proofs.Tests.{test}
 use Rattle.heavy.specs.declared.Counter.{Counter}
-use Rattle.heavy.specs.Counters.{names_in, counts_in, index_of, lowered, names_with, counts_with, counted_with, none_above, sum, Notes}
+use Rattle.heavy.specs.Counters.{names_in, counts_in, index_of, lowered, names_with, counts_with, counted_with, none_above, sum, Notes, NoneAbove}
 
 -- ---- names and counts of counters
 
@@ -82,10 +83,20 @@ pub count_sought : (x : ℕ) (cs : List Counter) {r : Option ℕ} → r ≡ posi
     → MatchOption r (length (counts_in cs) ≤ index_of x (counts_in cs)) (λ i. (i ≡ index_of x (counts_in cs)) × (i < length cs))
 count_sought x cs e = rw (e, count_first x cs, length-counts cs) (found (position_or_len (λ c. eqb c.count x) cs) (length cs))
 
-pub all-below : (most : ℕ) (cs : List Counter) → list_all (λ c. leb c.count most) cs ≡ none_above most (counts_in cs)
-unfolding none_above counts_in
+pub all-below : (most : ℕ) (ks : List ℕ) → list_all (λ k. leb k most) ks ≡ none_above most ks
+unfolding none_above
 all-below most [] = refl
-all-below most (c ∷ cs) = ap (λ b. leb c.count most && b) (all-below most cs)
+all-below most (k ∷ ks) = ap (λ b. leb k most && b) (all-below most ks)
+
+counts-map : (cs : List Counter) → map (λ c. c.count) cs ≡ counts_in cs
+unfolding counts_in
+counts-map [] = refl
+counts-map (c ∷ cs) = ap (λ (ks : List ℕ). c.count ∷ ks) (counts-map cs)
+
+-- of an iterator that yields the counts of counters
+pub none_above_counts : {S : Type 0} {steps : S → Option ℕ → S → Type 0} {s : S} {most : ℕ} {r : Bool} (cs : List Counter) → NoneAbove steps s most r → YieldsList steps (λ k. k) s (map (λ c. c.count) cs)
+    → r ≡ none_above most (counts_in cs)
+none_above_counts cs n y = n.is (counts_in cs) (rw (counts-map cs) at y.runs)
 
 -- ---- the first i counts at 0
 

@@ -1,5 +1,7 @@
 -- Which numbers come often in a list, found with a few counters: each has a name and a count.
 use Rattle.std.specs.Prelude.{ℕ, suc, ◌+◌, ◌-◌, ◌≤◌, ◌≡◌, Bool, true, ◌&&◌, List, [], ◌∷◌, ltb, leb, eqb, length, get_or, set, if◌then◌else◌}
+use Rattle.std.specs.Prelude as answer
+use Rattle.std.specs.Iterator.{AlwaysYields}
 use Rattle.heavy.specs.declared.Counter.{Counter}
 
 unfoldable pub names_in : List Counter → List ℕ
@@ -66,3 +68,7 @@ pub record Few (most : ℕ) (xs : List ℕ) : Type 0 where
 pub record Notes (ns ks ns' ks' : List ℕ) (x : ℕ) : Type 0 where
   pub names : ns' ≡ names_with x ns ks
   pub counts : ks' ≡ counts_with x ns ks
+
+-- the same of the counts that an iterator yields: `steps` is what a call of it may give
+pub record NoneAbove {S : Type 0} (steps : S → answer.Option ℕ → S → Type 0) (s : S) (most : ℕ) (r : Bool) : Type 0 where
+  pub is : (ks : List ℕ) → AlwaysYields steps (λ k. k) s ks → r ≡ none_above most ks

@@ -6,9 +6,11 @@
 #![tactic(auto)]
 
 ghost use Rattle.std.specs.Prelude.{◌≡◌, ◌<◌, ◌≤◌, ◌^◌, length, MatchOption};
-ghost use Rattle.heavy.specs.Counters.{names_in, counts_in, index_of, lowered, Notes, counted_with, none_above, sum};
+ghost use Rattle.std.specs.Iterator.{IsFinite};
+ghost use Rattle.heavy.specs.Counters.{names_in, counts_in, index_of, lowered, Notes, counted_with, sum, NoneAbove};
 
-// A number and how often it is met.
+// A number and how often it is met. (Names and counts as two lists would have to be of one length; any such two are those of one list of counters, so that a slice of these asks
+// no more. What is asked of counts alone, `none_above`, takes counts alone.)
 #[derive(Clone, Copy)]
 pub struct Counter {
     pub name: u64,
@@ -73,9 +75,10 @@ pub fn count(counters: &mut [Counter], x: u64)
     }
 }
 
-// Whether no count is above `most`.
-pub fn none_above(counters: &[Counter], most: u64) -> bool
-    ensures { result ≡ none_above most (counts_in counters.now) }
+// Whether no count is above `most`: of any counts, in counters or alone.
+pub fn none_above<I: Iterator<Item = u64>>(mut counts: I, most: u64) -> bool
+    requires { I.can_next counts × IsFinite (I.remaining counts) }
+    ensures { NoneAbove I.next_gives counts most result }
 {
-    counters.iter().all(|c| c.count <= most)
+    counts.all(|c| c <= most)
 }

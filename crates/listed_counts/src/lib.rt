@@ -109,7 +109,7 @@ fn none_often<N: Counted, const K: usize>(lines: Lines, most: u64, lists: &mut L
     note_lines::<N>(lines, &mut counters, lists);
     heavy::restart(&mut counters);
     count_lines::<N>(lines, &mut counters, lists);
-    heavy::none_above(&counters, most)
+    heavy::none_above(counters.iter().map(|c| c.count), most)
 }
 
 // Of the requests that the lines list: whether no connection is that of more than 5,000 candidates, and none owns more than 100 requests.
