@@ -41,17 +41,14 @@ fn opening(line: &[u8], e: usize) -> Option<Asked>
     ensures { asked_in line.now result ≡ open_of (rest line.now (e + 1)) }
 {
     let limit = number_at(line, e)?;
-    let places = number_at(line, limit.end)?;
-    if places.end < line.len() {
-        return None;
-    }
+    let places = number_at(line, limit.end)?.last(line)?;
     if MOST_ANNOUNCEMENTS < limit.value {
         return None;
     }
-    if MOST_PLACES < places.value {
+    if MOST_PLACES < places {
         return None;
     }
-    Some(Asked::Opening(limit.value, places.value))
+    Some(Asked::Opening(limit.value, places))
 }
 
 fn summing(line: &[u8], e: usize) -> Option<Asked>

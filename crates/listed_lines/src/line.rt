@@ -61,16 +61,13 @@ fn read_head(line: &[u8]) -> Option<Head>
     let places = number_at(line, limit.end)?;
     let poll = maybe_number_at(line, places.end)?;
     let known = maybe_key_at(line, poll.end)?;
-    let ready = maybe_key_at(line, known.end)?;
-    if ready.end < line.len() {
-        return None;
-    }
+    let ready = maybe_key_at(line, known.end)?.last(line)?;
     Some(Head {
         limit: limit.value,
         places: places.value,
         poll: poll.value,
         known: known.value,
-        ready: ready.value,
+        ready,
     })
 }
 
@@ -82,17 +79,14 @@ fn read_request(line: &[u8], lists: &mut Lists) -> Option<Request>
     let info = bool_at(line, owner.end)?;
     let packed = package_at(line, info.end, lists.wtxids)?;
     let list = list_at(line, packed.end, 0, lists.parents)?;
-    let mark = bool_at(line, list.end)?;
-    if mark.end < line.len() {
-        return None;
-    }
+    let mark = bool_at(line, list.end)?.last(line)?;
     Some(Request {
         key: regions::Key::from(key.value),
         owner: owner.value,
         info: info.value,
         packed: packed.value,
         parents: list.value,
-        mark: mark.value,
+        mark,
     })
 }
 
@@ -103,17 +97,14 @@ fn read_candidate(line: &[u8]) -> Option<Candidate>
     let item = item_at(line, connection.end)?;
     let ready = number_at(line, item.end)?;
     let preferred = bool_at(line, ready.end)?;
-    let priority = number_at(line, preferred.end)?;
-    if priority.end < line.len() {
-        return None;
-    }
+    let priority = number_at(line, preferred.end)?.last(line)?;
     Some(Candidate {
         connection: connection.value,
         kind: item.value.kind,
         hash: item.value.hash,
         ready: ready.value,
         preferred: preferred.value,
-        priority: priority.value,
+        priority,
     })
 }
 

@@ -2,7 +2,7 @@
 use Prim.Native.Nat.{ℕ, suc, ◌+◌, ◌<◌, ◌≤◌}
 use mathlib.Core.Path.{◌≡◌, refl, sym, ap, subst, ◌∙◌}
 use mathlib.Core.Logic.{◌⊎◌, inl, inr}
-use Rattle.std.specs.Prelude.{◌≢◌}
+use Rattle.std.specs.Prelude.{◌≢◌, MatchOption}
 use mathlib.Core.List.{List, [], ◌∷◌}
 use mathlib.Core.Option.{Option, none, some}
 use native.Mathlib.Omega.{arith}
@@ -122,11 +122,9 @@ module _ {l : List ℕ} {e : ℕ} {form : List ℕ} {r : Rust.Option (Parsed for
     to_end : (line : Values → Line) → form_then form blank (last line) (rest l (e + 1)) ≡ last line (values_of v) (rest l (end + 1))
     to_end line = p.is (last line) ∙ ap (then_values l (last line)) g
 
-    pub longer : end < length l → WholeRead l e form Rust.None
-    longer h = record { is = λ line. to_end line ∙ ending_more l end _ h }
-
-    pub whole_is : length l ≤ end → WholeRead l e form (Rust.Some v)
-    whole_is h = record { is = λ line. to_end line ∙ ending_end l end _ h }
+    pub whole_last : {o : Rust.Option forms.Values} → MatchOption o (end < length l) (λ w. (length l ≤ end) × (w ≡ v)) → WholeRead l e form o
+    whole_last {o = Rust.None} h = record { is = λ line. to_end line ∙ ending_more l end _ h }
+    whole_last {o = Rust.Some w} h = record { is = λ line. to_end line ∙ ending_end l end _ h.0 ∙ ap (λ (x : forms.Values). some (line (values_of x))) (sym h.1) }
 
 -- what they make
 module _ {l : List ℕ} {e : ℕ} {form : List ℕ} {r : Rust.Option forms.Values} (p : WholeRead l e form r) (line : Values → Line) where

@@ -1,6 +1,6 @@
 -- Fields of a line taken one after the other.
 use Prim.Native.Nat.{ℕ, ◌+◌, ◌-◌, ◌<◌, ◌≤◌}
-use mathlib.Core.Path.{◌≡◌, refl, sym, ap, ◌∙◌}
+use mathlib.Core.Path.{◌≡◌, refl, sym, ap, subst, ◌∙◌}
 use mathlib.Core.Logic.{inl, inr}
 use mathlib.Core.List.{List, [], ◌∷◌}
 use mathlib.Core.Option.{Option, none, some}
@@ -71,3 +71,12 @@ module _ {A : Type 0} {read : Reader A} {l : List ℕ} {e : ℕ} {o : Option (At
 
   pub field_is : {a : At A} → o ≡ some a → read k (rest l (e + 1)) ≡ k a.value (rest l (a.end + 1))
   field_is g = p.is k ∙ ap (then_of l k) g
+
+-- ---- the line's last field, as `Parsed::last` answers it
+
+module _ {T : Type 0} {n end : ℕ} (x : T) {o : Rust.Option T} (h : Rust.MatchOption o (end < n) (λ v. (n ≤ end) × (v ≡ x))) where
+  pub not_last : o ≡ Rust.None → end < n
+  not_last e = subst (λ (q : Rust.Option T). Rust.MatchOption q (end < n) (λ v. (n ≤ end) × (v ≡ x))) e h
+
+  pub is_last : {v : T} → o ≡ Rust.Some v → (n ≤ end) × (v ≡ x)
+  is_last e = subst (λ (q : Rust.Option T). Rust.MatchOption q (end < n) (λ v. (n ≤ end) × (v ≡ x))) e h

@@ -1,5 +1,5 @@
 // A line's fields one after the other, each found behind the comma that ends the one before it.
-ghost use Rattle.std.specs.Prelude.{◌≡◌};
+ghost use Rattle.std.specs.Prelude.{◌≡◌, ◌<◌, ◌≤◌, length, MatchOption};
 ghost use Rattle.std.specs.Fn.{FnOnceReturnsAt};
 ghost use Rattle.machine.specs.Fields.{number_of, bool_of, hash_of, key_of, item_of};
 ghost use Rattle.reading.specs.Given.{FieldParsed, FieldRead, number_at, bool_at, hash_at, key_at, item_at};
@@ -24,6 +24,18 @@ impl<T> Parsed<T> {
             value: f(self.value),
             end: self.end,
         }
+    }
+
+    // The value, if what says it ends where the line does.
+    pub fn last(self, line: &[u8]) -> Option<T>
+    where
+        T: Drop,
+        ensures { MatchOption result (self.end < length line.now) (λ v. (length line.now ≤ self.end) × (v ≡ self.value)) }
+    {
+        if self.end < line.len() {
+            return None;
+        }
+        Some(self.value)
     }
 }
 

@@ -137,14 +137,9 @@ pub fn read_form(line: &[u8], e: usize, form: &[u8]) -> Option<Parsed<Values>>
     Some(taken)
 }
 
-// The fields of a form, the line's last, behind the comma at index e. (That no field is left is one comparison at the end of each such reader: lists have an end and no Parsed, and
-// a method of Parsed would need a contract for it.)
+// The fields of a form, the line's last, behind the comma at index e.
 pub fn read_whole(line: &[u8], e: usize, form: &[u8]) -> Option<Values>
     ensures { WholeRead line.now e form.now result }
 {
-    let taken = read_form(line, e, form)?;
-    if taken.end < line.len() {
-        return None;
-    }
-    Some(taken.value)
+    read_form(line, e, form)?.last(line)
 }

@@ -3,6 +3,7 @@ use mathlib.Core.Path.{ap}
 use Rattle.machine.specs.Fields.{number_of}
 use Rattle.reading.specs.Given.{number_at, bool_at, item_at}
 use Rattle.listed_lines.proofs.Anywhere.{number_took, bool_took, item_took}
+use Rattle.reading.proofs.Taking.{not_last, is_last}
 use Rattle.listed_lines.proofs.Forms.{candidate_1, candidate_2, candidate_3, candidate_4, candidate_5, candidate_more, candidate_is}
 use Rattle.listed_lines.proofs.line.read_candidate.Goals as goal
 
@@ -32,29 +33,32 @@ returns-in_err-preferred c =
     (number_took number_of c.number_at.ensures) (ap number_at c.in_ok-ready.was)
     (bool_took c.bool_at.ensures) (ap bool_at c.in_err-preferred.was))
 
-pub returns-in_err-priority : goal.returns-in_err-priority
-returns-in_err-priority c =
-    rw c.from_residual-in_err-priority.ensures
+pub returns-in_err-number_at : goal.returns-in_err-number_at
+returns-in_err-number_at c =
+    rw c.from_residual-in_err-number_at.ensures
     (candidate_5 c.first_number.ensures (ap number_at c.in_ok-connection.was)
     (item_took c.item_at.ensures) (ap item_at c.in_ok-item.was)
     (number_took number_of c.number_at.ensures) (ap number_at c.in_ok-ready.was)
     (bool_took c.bool_at.ensures) (ap bool_at c.in_ok-preferred.was)
-    (number_took number_of c.number_at-2.ensures) (ap number_at c.in_err-priority.was))
+    (number_took number_of c.number_at-2.ensures) (ap number_at c.in_err-number_at.was))
 
-pub returns-then-priority-line : goal.returns-then-priority-line
-returns-then-priority-line c =
-    candidate_more c.first_number.ensures (ap number_at c.in_ok-connection.was)
+pub returns-in_err-priority : goal.returns-in_err-priority
+returns-in_err-priority c =
+    rw c.from_residual-in_err-priority.ensures
+    (candidate_more c.first_number.ensures (ap number_at c.in_ok-connection.was)
     (item_took c.item_at.ensures) (ap item_at c.in_ok-item.was)
     (number_took number_of c.number_at.ensures) (ap number_at c.in_ok-ready.was)
     (bool_took c.bool_at.ensures) (ap bool_at c.in_ok-preferred.was)
-    (number_took number_of c.number_at-2.ensures) (ap number_at c.in_ok-priority.was)
-    c.if-priority-line.true
+    (number_took number_of c.number_at-2.ensures) (ap number_at c.in_ok-number_at.was)
+    (not_last _ c.last.ensures c.in_err-priority.was))
 
 pub returns : goal.returns
 returns c =
-    candidate_is c.first_number.ensures (ap number_at c.in_ok-connection.was)
+    let e = is_last _ c.last.ensures c.in_ok-priority.was in
+    rw e.1
+    (candidate_is c.first_number.ensures (ap number_at c.in_ok-connection.was)
     (item_took c.item_at.ensures) (ap item_at c.in_ok-item.was)
     (number_took number_of c.number_at.ensures) (ap number_at c.in_ok-ready.was)
     (bool_took c.bool_at.ensures) (ap bool_at c.in_ok-preferred.was)
-    (number_took number_of c.number_at-2.ensures) (ap number_at c.in_ok-priority.was)
-    c.if-priority-line.false
+    (number_took number_of c.number_at-2.ensures) (ap number_at c.in_ok-number_at.was)
+    e.0)

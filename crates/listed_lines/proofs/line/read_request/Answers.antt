@@ -3,6 +3,7 @@ use mathlib.Core.Path.{ap}
 use Rattle.reading.specs.Given.{key_at, bool_at}
 use Rattle.listed_lines.specs.Given.{owner_at, package_at, list_at}
 use Rattle.listed_lines.proofs.Anywhere.{bool_took}
+use Rattle.reading.proofs.Taking.{not_last, is_last}
 use Rattle.listed_lines.proofs.Forms.{request_1, request_2, request_3, request_4, request_5, request_6, request_more, request_is}
 use Rattle.listed_lines.proofs.line.read_request.Goals as goal
 
@@ -41,33 +42,35 @@ returns-in_err-list c =
     c.package_at.ensures (ap (package_at _) c.in_ok-packed.was)
     c.list_at.ensures (ap (list_at _) c.in_err-list.was))
 
-pub returns-in_err-mark : goal.returns-in_err-mark
-returns-in_err-mark c =
-    rw c.from_residual-in_err-mark.ensures
+pub returns-in_err-bool_at : goal.returns-in_err-bool_at
+returns-in_err-bool_at c =
+    rw c.from_residual-in_err-bool_at.ensures
     (request_6 c.first_key.ensures (ap key_at c.in_ok-key.was)
     c.owner_at.ensures (ap owner_at c.in_ok-owner.was)
     (bool_took c.bool_at.ensures) (ap bool_at c.in_ok-info.was)
     c.package_at.ensures (ap (package_at _) c.in_ok-packed.was)
     c.list_at.ensures (ap (list_at _) c.in_ok-list.was)
-    (bool_took c.bool_at-2.ensures) (ap bool_at c.in_err-mark.was))
+    (bool_took c.bool_at-2.ensures) (ap bool_at c.in_err-bool_at.was))
 
-pub returns-then-mark-line : goal.returns-then-mark-line
-returns-then-mark-line c =
-    request_more c.first_key.ensures (ap key_at c.in_ok-key.was)
+pub returns-in_err-mark : goal.returns-in_err-mark
+returns-in_err-mark c =
+    rw c.from_residual-in_err-mark.ensures
+    (request_more c.first_key.ensures (ap key_at c.in_ok-key.was)
     c.owner_at.ensures (ap owner_at c.in_ok-owner.was)
     (bool_took c.bool_at.ensures) (ap bool_at c.in_ok-info.was)
     c.package_at.ensures (ap (package_at _) c.in_ok-packed.was)
     c.list_at.ensures (ap (list_at _) c.in_ok-list.was)
-    (bool_took c.bool_at-2.ensures) (ap bool_at c.in_ok-mark.was)
-    c.if-mark-line.true
+    (bool_took c.bool_at-2.ensures) (ap bool_at c.in_ok-bool_at.was)
+    (not_last _ c.last.ensures c.in_err-mark.was))
 
 pub returns : goal.returns
 returns c =
-    rw c.from.ensures
+    let e = is_last _ c.last.ensures c.in_ok-mark.was in
+    rw (c.from.ensures, e.1)
     (request_is c.first_key.ensures (ap key_at c.in_ok-key.was)
     c.owner_at.ensures (ap owner_at c.in_ok-owner.was)
     (bool_took c.bool_at.ensures) (ap bool_at c.in_ok-info.was)
     c.package_at.ensures (ap (package_at _) c.in_ok-packed.was)
     c.list_at.ensures (ap (list_at _) c.in_ok-list.was)
-    (bool_took c.bool_at-2.ensures) (ap bool_at c.in_ok-mark.was)
-    c.if-mark-line.false)
+    (bool_took c.bool_at-2.ensures) (ap bool_at c.in_ok-bool_at.was)
+    e.0)
