@@ -13,15 +13,6 @@ pub slice_bounds-line_in-end : goal.slice_bounds-line_in-end
 slice_bounds-line_in-end c =
     omega (arith, end_most 10 c.args.text.now c.args.at (omega arith) c.find-end.ensures)
 
-pub overflow_add-result : goal.overflow_add-result
-overflow_add-result c =
-    omega (
-      arith,
-      end_most 10 c.args.text.now c.args.at (omega (arith, c.requires))
-          c.find-end.ensures,
-      c.if-end-text.false,
-    )
-
 pub returns : goal.returns
 returns c =
     line_is c.args.text.now c.args.at c.requires
