@@ -1,5 +1,5 @@
 -- `inventory::offers::read_offers` meets its contract. The loop's invariant: the first i offers are read.
-use mathlib.Core.Path.{◌≡◌, refl, ap, ◌∙◌}
+use mathlib.Core.Path.{refl, ap, ◌∙◌}
 use native.Mathlib.Omega.{arith}
 use Rattle.reading.specs.Lists.{offer_then}
 use Rattle.reading.specs.Given.{item_at, number_at}
@@ -27,21 +27,6 @@ returns-in_err-priority c =
           (ap number_at c.in_err-priority.was)) refl;
     })
 
-pub put_offer-requires : goal.put_offer-requires
-put_offer-requires c = (
-  omega arith,
-  omega (
-    arith,
-    c.loop-i.invariant.1,
-    c.requires.1,
-  ),
-  omega (
-    arith,
-    c.loop-i.invariant.2,
-    c.requires.2,
-  ),
-)
-
 pub loop-i-preserved : goal.loop-i-preserved
 loop-i-preserved c =
     let p = c.item_at.ensures in
@@ -56,6 +41,3 @@ loop-i-preserved c =
       one_more_lem c.loop-i.invariant.3 (omega arith) o refl
           (offer-put p z c.put_offer.ensures),
     )
-
-pub returns : goal.returns
-returns c = record { is = (let e : c.loop-i.i ≡ c.args.n = omega arith in rw e at c.loop-i.invariant.3) }
