@@ -50,6 +50,7 @@ pub fn put_hash(out: &mut [u8], at: usize, q: regions::Quad) -> usize
     put_text(out, at, &t[..e])
 }
 
+// (A number for the kind goes in as `ident::Kind::from(n)`, which takes any: the text is that of `kind_is n`.)
 pub fn put_key(out: &mut [u8], at: usize, k: ident::Key) -> usize
     requires { at + key_room ≤ farthest }
     ensures { (result ≤ at + key_room) × Lays out.old out.new at (key_field short (key_num k)) result }
@@ -58,7 +59,8 @@ pub fn put_key(out: &mut [u8], at: usize, k: ident::Key) -> usize
     put_hash(out, e, regions::Quad::from(k.hash))
 }
 
-// The letter of an item, by the kind of its key and whether it is v. (An `ident::ItemKind` has kinds that no row has.)
+// The letter of an item, by the kind of its key and whether it is v. (An `ident::ItemKind` has kinds that no row has. A number for the kind goes in as above, a number w for the other as
+// `w != 0`: `item_kind_as` says the same of every number but 0.)
 pub fn put_letter(out: &mut [u8], at: usize, kind: ident::Kind, witness: bool) -> usize
     requires { at + 1 ≤ farthest }
     ensures { (result ≡ at + 1) × Lays out.old out.new at (item_kind_text (item_kind_as kind (one witness))) result }
