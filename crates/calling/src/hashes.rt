@@ -61,9 +61,9 @@ pub fn answer_hashes(
     requires { (answer_room ≤ length out.old) × (length line.now ≤ line_room) }
     ensures { Keeping (list_call (hashes_ask w (values_of v)) (rest line.now (e + 1))) store.old store.new out.old out.new result }
 {
-    let mut hashes = hash_buffer();
-    let Some(n) = read_list(line, e, &mut hashes) else {
+    let mut buffer = hash_buffer();
+    let Some(hashes) = read_list(line, e, &mut buffer) else {
         return unreadable(out);
     };
-    carry_out(store, out, w, v, &hashes[..n])
+    carry_out(store, out, w, v, hashes)
 }

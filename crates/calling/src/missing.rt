@@ -45,10 +45,9 @@ pub fn answer_missing(store: &mut [u8], line: &[u8], out: &mut [u8], v: Values, 
     requires { (answer_room ≤ length out.old) × (length line.now ≤ line_room) }
     ensures { Keeping (item_list_call (missing_ask (values_of v)) (rest line.now (e + 1))) store.old store.new out.old out.new result }
 {
-    let mut items = inventory::items::item_buffer();
-    let Some(n) = inventory::items::read_list(line, e, &mut items) else {
+    let mut buffer = inventory::items::item_buffer();
+    let Some(items) = inventory::items::read_list(line, e, &mut buffer) else {
         return unreadable(out);
     };
-    let m = n * lent_lists::ITEM;
-    carry_out(store, out, v, &items[..m])
+    carry_out(store, out, v, items)
 }

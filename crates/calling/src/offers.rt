@@ -17,19 +17,17 @@ pub fn answer_offers(store: &mut [u8], line: &[u8], out: &mut [u8], v: Values, e
 {
     let mut items = inventory::offers::item_buffer();
     let mut priorities = inventory::offers::priority_buffer();
-    let Some(n) = inventory::offers::read_list(line, e, &mut items, &mut priorities) else {
+    let Some(offers) = inventory::offers::read_list(line, e, &mut items, &mut priorities) else {
         return unreadable(out);
     };
-    let k = n * lent_lists::ITEM;
-    let m = n * inventory::numbers::NUMBER;
     let a = public_plans::wrappers::announce_transactions(
         store,
         v.connection,
         v.clock,
         v.preferred,
         v.source,
-        &items[..k],
-        &priorities[..m],
+        offers.items,
+        offers.priorities,
     );
     number(out, a)
 }

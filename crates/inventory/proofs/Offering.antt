@@ -4,22 +4,25 @@ use mathlib.Core.Path.{◌≡◌, refl, sym, ap, ◌∙◌}
 use mathlib.Core.List.{List, [], ◌∷◌, ◌++◌}
 use mathlib.Core.Option.{Option, none, some}
 use native.Mathlib.Omega.{arith}
+use lib.Dec.{lit≤}
 use lib.ListN.{length, take}
+use lib.Seq.{length-take-le}
 use Rattle.ident.specs.Number.{Item}
-use Rattle.words.specs.Words.{number, recs}
+use Rattle.words.specs.Words.{number, words, recs}
 use Rattle.words.proofs.Records.{length-recs}
 use Rattle.machine.specs.Wrapper.{Offer}
 use Rattle.machine.specs.Call.{On}
-use Rattle.lent_lists.specs.Items.{item_bytes, item_in, paired, offers_in}
+use Rattle.lent_lists.specs.Items.{item_bytes, item_in, items_in, paired, offers_in}
 use Rattle.machine.specs.Fields.{number_of, item_of, taking}
 use Rattle.reading.specs.Line.{Asks}
 use Rattle.reading.specs.Lists.{offer_of, offer_then, offers_call}
 use Rattle.reading.specs.Given.{At, ElementRead, FieldRead, NoList, IsList}
 use Rattle.reading.proofs.Taking.{field_not, field_is}
+use Rattle.reading.proofs.Stored.{all_stored}
+use Rattle.inventory.specs.declared.offers.Offers.{Offers}
 use Rattle.std.specs.Prelude.{None, Some}
 use Rattle.inventory.specs.Given.{most_offers, item_room, priority_room, items_of, number_bytes, numbers_of, offers_of, OfferPut, OffersGiven}
 use Rattle.inventory.proofs.Plain.{plain-item}
-use Rattle.inventory.proofs.Listing.{items-stored, numbers-stored}
 
 -- ---- one offer: an item, and the number behind it
 
@@ -62,14 +65,35 @@ module _ {l : List ℕ} {e : ℕ} {o : Option (At Item)} (p : FieldRead item_of 
 
 -- ---- the whole list
 
-offers-stored : (n : ℕ) (b c : List ℕ) → n ≤ most_offers → item_room ≤ length b → priority_room ≤ length c → offers_in (take (n * item_bytes) b) (take (n * number_bytes) c) ≡ offers_of n b c
-offers-stored n b c m h g = rw (items-stored n b (omega arith), numbers-stored n c (omega arith))
+items-stored : (n : ℕ) (b : List ℕ) → item_bytes * n ≤ length b → items_in (take (n * item_bytes) b) ≡ items_of n b
+unfolding items_in
+items-stored n b s = all_stored item_bytes item_in n b (lit≤ tt) s
 
-module _ {l : List ℕ} {e : ℕ} {b c : List ℕ} where
-  pub no-offers : NoList offer_then l e → OffersGiven l e b c None
-  unfolding offers_call
-  no-offers g = record { is = λ ask. g (λ os. Asks (On (ask os))) }
+numbers-stored : (n : ℕ) (b : List ℕ) → number_bytes * n ≤ length b → words (take (n * number_bytes) b) ≡ numbers_of n b
+unfolding words
+numbers-stored n b s = all_stored number_bytes (number 256) n b (lit≤ tt) s
 
-  pub offers-are : {n : ℕ} → n ≤ most_offers → item_room ≤ length b → priority_room ≤ length c → IsList offer_then l e (offers_of n b c) → OffersGiven l e b c (Some n)
+pub no-offers : {l : List ℕ} {e : ℕ} → NoList offer_then l e → OffersGiven l e None
+unfolding offers_call
+no-offers g = record { is = λ ask. g (λ os. Asks (On (ask os))) }
+
+-- the bytes of both, as they are lent
+module _ {n : ℕ} (b c : List ℕ) (f : n ≤ most_offers) (i : item_room ≤ length b) (j : priority_room ≤ length c) (o : Offers) (g : o.items.now ≡ take (n * item_bytes) b)
+    (h : o.priorities.now ≡ take (n * number_bytes) c) where
+  offers-stored : offers_in o.items.now o.priorities.now ≡ offers_of n b c
+  offers-stored = rw (g, h, items-stored n b (omega arith), numbers-stored n c (omega arith))
+
+  pub offers-are : {l : List ℕ} {e : ℕ} → IsList offer_then l e (offers_of n b c) → OffersGiven l e (Some o)
   unfolding offers_call
-  offers-are {n} f i j g = record { is = record { few = f; is = λ ask. g (λ os. Asks (On (ask os))) ∙ ap (λ (os : List Offer). some (Asks (On (ask os)))) (sym (offers-stored n b c f i j)) } }
+  offers-are w =
+      record {
+        is = record {
+          held = record {
+            n = n;
+            few = f;
+            long = rw g (length-take-le (n * item_bytes) b (omega arith));
+            is = λ ask. w (λ os. Asks (On (ask os))) ∙ ap (λ (os : List Offer). some (Asks (On (ask os)))) (sym offers-stored);
+          };
+          paired = rw h (length-take-le (n * number_bytes) c (omega arith));
+        };
+      }

@@ -1,6 +1,8 @@
 -- What the contracts of the readers of lists say.
-use Rattle.std.specs.Prelude.{ℕ, ◌+◌, ◌*◌, ◌≤◌, ◌≡◌, true, List, take}
+use Rattle.std.specs.Prelude.{ℕ, ◌+◌, ◌*◌, ◌≤◌, ◌≡◌, true, List, length}
 use Rattle.std.specs.Prelude as answer
+use denote.Ref.{Bor}
+use Rattle.inventory.specs.declared.offers.Offers.{Offers}
 use Rattle.std.proofs.Math.Option.{Option, none, some}
 use Rattle.ident.specs.declared.ItemKind.{ItemKind}
 use Rattle.ident.specs.Number.{Item, is_plain}
@@ -20,9 +22,11 @@ use Rattle.reading.specs.Given.{Stored}
 abbrev pub Lister : Type 0 → Type 0
 Lister A = (List A → Ask) → List (List ℕ) → Option Line
 
--- the list behind the comma at index e has m elements, those of xs
-pub record Held {A : Type 0} (call : Lister A) (l : List ℕ) (e most m : ℕ) (xs : List A) : Type 0 where
-  pub few : m ≤ most
+-- the list behind the comma at index e is xs, in n records of `size` bytes
+pub record Held {A : Type 0} (call : Lister A) (l : List ℕ) (e most size : ℕ) (b : List ℕ) (xs : List A) : Type 0 where
+  pub n : ℕ
+  pub few : n ≤ most
+  pub long : length b ≡ n * size
   pub is : (ask : List A → Ask) → call ask (rest l (e + 1)) ≡ some (Asks (On (ask xs)))
 
 -- there is no such list
@@ -38,15 +42,12 @@ most_listed = 21845
 abbrev pub listed_room : ℕ
 listed_room = 873800
 
-abbrev pub KeysHeld : List ℕ → ℕ → List ℕ → ℕ → Type 0
-KeysHeld l e b m = Held key_list_call l e most_listed m (given_keys (take (m * key_bytes) b))
+abbrev pub KeysAs : List ℕ → ℕ → answer.Option (Bor (List ℕ)) → Type 0
+KeysAs l e answer.None = Unlisted key_list_call l e
+KeysAs l e (answer.Some b) = Held key_list_call l e most_listed key_bytes b.now (given_keys b.now)
 
-abbrev pub KeysAs : List ℕ → ℕ → List ℕ → answer.Option ℕ → Type 0
-KeysAs l e b answer.None = Unlisted key_list_call l e
-KeysAs l e b (answer.Some m) = KeysHeld l e b m
-
-pub record KeysGiven (l : List ℕ) (e : ℕ) (b : List ℕ) (r : answer.Option ℕ) : Type 0 where
-  pub is : KeysAs l e b r
+pub record KeysGiven (l : List ℕ) (e : ℕ) (r : answer.Option (Bor (List ℕ))) : Type 0 where
+  pub is : KeysAs l e r
 
 -- the first n items of bytes
 abbrev pub items_of : ℕ → List ℕ → List Item
@@ -56,15 +57,12 @@ items_of n b = recs item_bytes item_in n b
 pub record ItemPut (b b' : List ℕ) (i : ℕ) (k : ItemKind) (h : ℕ) : Type 0 where
   pub is : is_plain k ≡ true → Stored item_bytes item_in b b' i (record { kind = k; hash = h })
 
-abbrev pub ItemsHeld : List ℕ → ℕ → List ℕ → ℕ → Type 0
-ItemsHeld l e b m = Held item_list_call l e most_listed m (items_in (take (m * item_bytes) b))
+abbrev pub ItemsAs : List ℕ → ℕ → answer.Option (Bor (List ℕ)) → Type 0
+ItemsAs l e answer.None = Unlisted item_list_call l e
+ItemsAs l e (answer.Some b) = Held item_list_call l e most_listed item_bytes b.now (items_in b.now)
 
-abbrev pub ItemsAs : List ℕ → ℕ → List ℕ → answer.Option ℕ → Type 0
-ItemsAs l e b answer.None = Unlisted item_list_call l e
-ItemsAs l e b (answer.Some m) = ItemsHeld l e b m
-
-pub record ItemsGiven (l : List ℕ) (e : ℕ) (b : List ℕ) (r : answer.Option ℕ) : Type 0 where
-  pub is : ItemsAs l e b r
+pub record ItemsGiven (l : List ℕ) (e : ℕ) (r : answer.Option (Bor (List ℕ))) : Type 0 where
+  pub is : ItemsAs l e r
 
 -- ---- numbers
 
@@ -82,17 +80,19 @@ number_bytes = 8
 abbrev pub numbers_of : ℕ → List ℕ → List ℕ
 numbers_of n b = recs number_bytes (number 256) n b
 
--- the connections of `send`
-pub record NumbersHeld (l : List ℕ) (e : ℕ) (b : List ℕ) (m : ℕ) : Type 0 where
-  pub few : m ≤ most_numbers
-  pub is : send_line (rest l (e + 1)) ≡ some (Send (words (take (m * number_bytes) b)))
+-- the connections of `send`, in n records
+pub record NumbersHeld (l : List ℕ) (e : ℕ) (b : List ℕ) : Type 0 where
+  pub n : ℕ
+  pub few : n ≤ most_numbers
+  pub long : length b ≡ n * number_bytes
+  pub is : send_line (rest l (e + 1)) ≡ some (Send (words b))
 
-abbrev pub NumbersAs : List ℕ → ℕ → List ℕ → answer.Option ℕ → Type 0
-NumbersAs l e b answer.None = send_line (rest l (e + 1)) ≡ none
-NumbersAs l e b (answer.Some m) = NumbersHeld l e b m
+abbrev pub NumbersAs : List ℕ → ℕ → answer.Option (Bor (List ℕ)) → Type 0
+NumbersAs l e answer.None = send_line (rest l (e + 1)) ≡ none
+NumbersAs l e (answer.Some b) = NumbersHeld l e b.now
 
-pub record NumbersGiven (l : List ℕ) (e : ℕ) (b : List ℕ) (r : answer.Option ℕ) : Type 0 where
-  pub is : NumbersAs l e b r
+pub record NumbersGiven (l : List ℕ) (e : ℕ) (r : answer.Option (Bor (List ℕ))) : Type 0 where
+  pub is : NumbersAs l e r
 
 -- ---- items with their priorities
 
@@ -114,12 +114,14 @@ pub record OfferPut (b b' c c' : List ℕ) (i : ℕ) (k : ItemKind) (h p : ℕ) 
   pub item : ItemPut b b' i k h
   pub priority : Stored number_bytes (number 256) c c' i p
 
-abbrev pub OffersHeld : List ℕ → ℕ → List ℕ → List ℕ → ℕ → Type 0
-OffersHeld l e b c m = Held offers_call l e most_offers m (offers_in (take (m * item_bytes) b) (take (m * number_bytes) c))
+-- so many items, and a priority for each
+pub record OffersHeld (l : List ℕ) (e : ℕ) (o : Offers) : Type 0 where
+  pub held : Held offers_call l e most_offers item_bytes o.items.now (offers_in o.items.now o.priorities.now)
+  pub paired : length o.priorities.now ≡ held.n * number_bytes
 
-abbrev pub OffersAs : List ℕ → ℕ → List ℕ → List ℕ → answer.Option ℕ → Type 0
-OffersAs l e b c answer.None = Unlisted offers_call l e
-OffersAs l e b c (answer.Some m) = OffersHeld l e b c m
+abbrev pub OffersAs : List ℕ → ℕ → answer.Option Offers → Type 0
+OffersAs l e answer.None = Unlisted offers_call l e
+OffersAs l e (answer.Some o) = OffersHeld l e o
 
-pub record OffersGiven (l : List ℕ) (e : ℕ) (b c : List ℕ) (r : answer.Option ℕ) : Type 0 where
-  pub is : OffersAs l e b c r
+pub record OffersGiven (l : List ℕ) (e : ℕ) (r : answer.Option Offers) : Type 0 where
+  pub is : OffersAs l e r

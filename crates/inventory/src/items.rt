@@ -40,7 +40,9 @@ impl Element for ListedItem {
 
     ghost reads = { taking item_of };
 
-    ghost size = { item_bytes };
+    ghost SIZE = { item_bytes };
+
+    const SIZE: usize = ITEM;
 
     ghost held = { item_in };
 
@@ -52,10 +54,10 @@ impl Element for ListedItem {
     }
 }
 
-// The list behind the comma at index e, the line's last fields: how many items stand in the bytes.
-pub fn read_list(line: &[u8], e: usize, items: &mut [u8]) -> Option<usize>
+// The list behind the comma at index e, the line's last fields: its bytes, of those lent.
+pub fn read_list<'a>(line: &[u8], e: usize, items: &'a mut [u8]) -> Option<&'a [u8]>
     requires { (length line.now ≤ longest_line) × (listed_room ≤ length items.old) }
-    ensures { ItemsGiven line.now e items.new result }
+    ensures { ItemsGiven line.now e result }
 {
     list::read_list::<ListedItem>(line, e, ITEMS, items)
 }

@@ -41,7 +41,9 @@ impl Element for ListedKey {
 
     ghost reads = { taking key_of };
 
-    ghost size = { key_bytes };
+    ghost SIZE = { key_bytes };
+
+    const SIZE: usize = KEY;
 
     ghost held = { key_in };
 
@@ -52,10 +54,10 @@ impl Element for ListedKey {
     }
 }
 
-// The list behind the comma at index e, the line's last fields: how many keys stand in the bytes.
-pub fn read_list(line: &[u8], e: usize, keys: &mut [u8]) -> Option<usize>
+// The list behind the comma at index e, the line's last fields: its bytes, of those lent.
+pub fn read_list<'a>(line: &[u8], e: usize, keys: &'a mut [u8]) -> Option<&'a [u8]>
     requires { (length line.now ≤ longest_line) × (listed_room ≤ length keys.old) }
-    ensures { KeysGiven line.now e keys.new result }
+    ensures { KeysGiven line.now e result }
 {
     list::read_list::<ListedKey>(line, e, KEYS, keys)
 }

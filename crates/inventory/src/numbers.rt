@@ -29,7 +29,9 @@ impl Element for ListedNumber {
 
     ghost reads = { taking number_of };
 
-    ghost size = { number_bytes };
+    ghost SIZE = { number_bytes };
+
+    const SIZE: usize = NUMBER;
 
     ghost held = { number 256 };
 
@@ -40,10 +42,10 @@ impl Element for ListedNumber {
     }
 }
 
-// The list behind the comma at index e, the line's last fields: how many numbers stand in the bytes.
-pub fn read_list(line: &[u8], e: usize, numbers: &mut [u8]) -> Option<usize>
+// The list behind the comma at index e, the line's last fields: its bytes, of those lent.
+pub fn read_list<'a>(line: &[u8], e: usize, numbers: &'a mut [u8]) -> Option<&'a [u8]>
     requires { (length line.now ≤ longest_line) × (number_room ≤ length numbers.old) }
-    ensures { NumbersGiven line.now e numbers.new result }
+    ensures { NumbersGiven line.now e result }
 {
     list::read_list::<ListedNumber>(line, e, NUMBERS, numbers)
 }

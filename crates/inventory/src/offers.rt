@@ -66,10 +66,22 @@ fn read_offers(
     Some(to)
 }
 
-// The list behind the comma at index e, the line's last fields: how many offers stand in the bytes.
-pub fn read_list(line: &[u8], e: usize, items: &mut [u8], priorities: &mut [u8]) -> Option<usize>
+// What an offers' list is read into: its items and its priorities.
+#[derive(Clone, Copy)]
+pub struct Offers<'a> {
+    pub items: &'a [u8],
+    pub priorities: &'a [u8],
+}
+
+// The list behind the comma at index e, the line's last fields: its bytes, of those lent.
+pub fn read_list<'a>(
+    line: &[u8],
+    e: usize,
+    items: &'a mut [u8],
+    priorities: &'a mut [u8],
+) -> Option<Offers<'a>>
     requires { (length line.now ≤ longest_line) × (item_room ≤ length items.old) × (priority_room ≤ length priorities.old) }
-    ensures { OffersGiven line.now e items.new priorities.new result }
+    ensures { OffersGiven line.now e result }
 {
     let count = number_at(line, e)?;
     if (OFFERS as u64) < count.value {
@@ -80,5 +92,8 @@ pub fn read_list(line: &[u8], e: usize, items: &mut [u8], priorities: &mut [u8])
     if end < line.len() {
         return None;
     }
-    Some(n)
+    Some(Offers {
+        items: &items[..n * ITEM],
+        priorities: &priorities[..n * NUMBER],
+    })
 }

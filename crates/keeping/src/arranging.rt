@@ -35,12 +35,11 @@ pub fn answer_send(store: &[u8], lists: &mut Lists, line: &[u8], out: &mut [u8],
     requires { (answer_room ≤ length out.old) × (length line.now ≤ line_room) }
     ensures { Answered (send_line (rest line.now (e + 1))) lists.old lists.new store.now store.now out.old out.new result }
 {
-    let mut witnesses = inventory::numbers::number_buffer();
-    let Some(n) = inventory::numbers::read_list(line, e, &mut witnesses) else {
+    let mut buffer = inventory::numbers::number_buffer();
+    let Some(witnesses) = inventory::numbers::read_list(line, e, &mut buffer) else {
         return unreadable(out);
     };
-    let m = n * inventory::numbers::NUMBER;
-    arrange_taken(store, lists, out, &witnesses[..m])
+    arrange_taken(store, lists, out, witnesses)
 }
 
 // One connection's part of an arranged list.

@@ -55,12 +55,11 @@ pub fn answer_want(
     ensures { Answered (key_list_call (want_ask (values_of v)) (rest line.now (e + 1))) lists.old lists.new store.old store.new
         out.old out.new result }
 {
-    let mut keys = inventory::keys::key_buffer();
-    let Some(n) = inventory::keys::read_list(line, e, &mut keys) else {
+    let mut buffer = inventory::keys::key_buffer();
+    let Some(keys) = inventory::keys::read_list(line, e, &mut buffer) else {
         return unreadable(out);
     };
-    let m = n * lent_lists::KEY;
-    plan_given(store, lists, out, v.clock, &keys[..m])
+    plan_given(store, lists, out, v.clock, keys)
 }
 
 pub fn answer_take(store: &mut [u8], lists: &mut Lists, out: &mut [u8], clock: u64) -> usize

@@ -9,7 +9,7 @@ use lib.ListN.{length}
 use Rattle.machine.specs.Fields.{number_of, rest, taking, ending, elements_then}
 use Rattle.std.specs.Prelude as Rust
 use Rattle.reading.specs.Line.{Line, Reader, list_then}
-use Rattle.reading.specs.Given.{At, then_of, ElementRead, FieldRead, ElementsRead, ElementsAs, ListRead, Stored, bytes, Takes, NoList, IsList, WholeAs, WholeList, Taken, TakenAs, ElementHeld}
+use Rattle.reading.specs.Given.{At, then_of, ElementRead, FieldRead, ElementsRead, ElementsAs, ListRead, Stored, bytes, Takes, NoList, Taken, TakenAs, ElementHeld}
 use Rattle.reading.proofs.Taking.{field_not, field_is, ending_end, ending_more}
 use Rattle.reading.proofs.Bytes.{bytes_rest, no_value}
 
@@ -130,15 +130,3 @@ module _ {A : Type 0} (read : Reader A) {l : List ℕ} {e : ℕ} {o : Option (At
 
         pub list_is : length l ≤ to → (line : List A → Line) → list_then read line (rest l (e + 1)) ≡ some (line xs)
         list_is m line = to_end line ∙ ending_end l to _ m
-
--- ---- the whole list, as it was read
-
-module _ {A : Type 0} {read : Reader A} {l : List ℕ} {e most : ℕ} {xs : ℕ → List A} {r : Rust.Option ℕ} (q : WholeList read l e most xs r) where
-  pub not_whole : {w : ℕ} → r ≡ Rust.None → Takes read w → length l < w * (most + 1) → NoList read l e
-  not_whole {w} g t m = subst (WholeAs read l e most xs) g q.is w t m
-
-  pub few_enough : {n : ℕ} → r ≡ Rust.Some n → n ≤ most
-  few_enough g = (subst (WholeAs read l e most xs) g q.is).0
-
-  pub whole_is : {n : ℕ} → r ≡ Rust.Some n → IsList read l e (xs n)
-  whole_is g = (subst (WholeAs read l e most xs) g q.is).1

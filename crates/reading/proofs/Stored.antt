@@ -15,7 +15,10 @@ use Rattle.regions.specs.Rows.{quad_words, quad_number}
 use Rattle.words.specs.Words.{number, digits, recs, splice}
 use Rattle.words.proofs.Digits.{length_digits, number_digits, number_below}
 use Rattle.words.proofs.Records.{recs-add, recs_front, recs-take}
-use Rattle.reading.specs.Given.{hashes_of, Stored}
+use denote.Ref.{Bor}
+use Rattle.std.specs.Prelude.{Some}
+use Rattle.reading.specs.Line.{Reader}
+use Rattle.reading.specs.Given.{hashes_of, Stored, IsList, WholeList}
 
 -- ---- one record more in the bytes
 
@@ -65,9 +68,15 @@ pub none_stored : {A : Type 0} (k : ℕ) (f : List ℕ → A) (b : List ℕ) →
 unfolding recs
 none_stored k f b = refl
 
--- the first n records, counted by their bytes
-module _ {A : Type 0} (k : ℕ) (f : List ℕ → A) (n : ℕ) (b : List ℕ) (o : 1 ≤ k) (h : k * n ≤ length b) where
-  pub all_stored : recs k f (length (take (n * k) b) / k) (take (n * k) b) ≡ recs k f n b
-  all_stored =
-      let j : length (take (k * n) b) ≡ k * n = length-take-le (k * n) b h in
-      rw (mul_comm n k, j, mul-div_cancel_left n o) (recs-take k f n b h)
+-- the first n records, as their bytes are lent
+pub list_lent : {A : Type 0} {read : Reader A} (k : ℕ) (f : List ℕ → A) {l : List ℕ} {e n most : ℕ} (b : List ℕ) {s : Bor (List ℕ)}
+    → n ≤ most → k * n ≤ length b → s.now ≡ take (n * k) b → IsList read l e (recs k f n b) → WholeList read k f l e most (Some s)
+list_lent k f {n = n} b few room g is =
+    record { is = (n, few, rw (g, mul_comm n k) (length-take-le (k * n) b room), rw (g, mul_comm n k, recs-take k f n b room) is) }
+
+-- all records of bytes, counted by their length
+pub all_counted : {A : Type 0} (k : ℕ) (f : List ℕ → A) (n : ℕ) (b : List ℕ) → 1 ≤ k → length b ≡ n * k → recs k f (length b / k) b ≡ recs k f n b
+all_counted k f n b o h = ap (λ (m : ℕ). recs k f m b) (rw (h, mul_comm n k) (mul-div_cancel_left n o))
+
+pub all_stored : {A : Type 0} (k : ℕ) (f : List ℕ → A) (n : ℕ) (b : List ℕ) → 1 ≤ k → k * n ≤ length b → recs k f (length (take (n * k) b) / k) (take (n * k) b) ≡ recs k f n b
+all_stored k f n b o h = all_counted k f n (take (n * k) b) o (rw (mul_comm n k) (length-take-le (k * n) b h)) ∙ rw (mul_comm n k) (recs-take k f n b h)

@@ -1,5 +1,6 @@
 -- What the contracts of the readers say.
-use Rattle.std.specs.Prelude.{ℕ, ◌+◌, ◌-◌, ◌*◌, ◌<◌, ◌≤◌, ◌≡◌, Bool, List, [], ◌∷◌, ◌++◌, length, take, drop, Option, None, Some}
+use Rattle.std.specs.Prelude.{ℕ, ◌+◌, ◌-◌, ◌*◌, ◌<◌, ◌≤◌, ◌≡◌, Bool, List, [], ◌∷◌, ◌++◌, length, drop, Option, None, Some}
+use denote.Ref.{Bor}
 use Rattle.std.proofs.Math.Option as math
 use Rattle.std.proofs.Math.Option.{none, some}
 use Rattle.ident.specs.Number.{Key, Item}
@@ -158,13 +159,13 @@ NoList {A} read l e = (line : List A → Line) → list_then read line (rest l (
 abbrev pub IsList : {A : Type 0} → Reader A → List ℕ → ℕ → List A → Type 0
 IsList {A} read l e xs = (line : List A → Line) → list_then read line (rest l (e + 1)) ≡ some (line xs)
 
--- the list behind the comma at index e: n elements, `xs n`. Where it is refused, there is none, if the line is too short for more than `most`.
-abbrev pub WholeAs : {A : Type 0} → Reader A → List ℕ → ℕ → ℕ → (ℕ → List A) → Option ℕ → Type 0
-WholeAs read l e most xs None = (w : ℕ) → Takes read w → length l < w * (most + 1) → NoList read l e
-WholeAs read l e most xs (Some n) = (n ≤ most) × IsList read l e (xs n)
+-- the list behind the comma at index e: its bytes, n records of `size` bytes. Where it is refused, there is none, if the line is too short for more than `most`.
+abbrev pub WholeAs : {A : Type 0} → Reader A → ℕ → (List ℕ → A) → List ℕ → ℕ → ℕ → Option (Bor (List ℕ)) → Type 0
+WholeAs read size f l e most None = (w : ℕ) → Takes read w → length l < w * (most + 1) → NoList read l e
+WholeAs read size f l e most (Some s) = (n : ℕ) × (n ≤ most) × (length s.now ≡ n * size) × IsList read l e (recs size f n s.now)
 
-pub record WholeList {A : Type 0} (read : Reader A) (l : List ℕ) (e most : ℕ) (xs : ℕ → List A) (r : Option ℕ) : Type 0 where
-  pub is : WholeAs read l e most xs r
+pub record WholeList {A : Type 0} (read : Reader A) (size : ℕ) (f : List ℕ → A) (l : List ℕ) (e most : ℕ) (r : Option (Bor (List ℕ))) : Type 0 where
+  pub is : WholeAs read size f l e most r
 
 -- ---- a list of hashes
 
@@ -179,14 +180,10 @@ stored_bytes = 1048576
 abbrev pub hashes_of : ℕ → List ℕ → List ℕ
 hashes_of n b = recs hash_bytes (number 256) n b
 
--- the list behind the comma at index e stands in the first m bytes of b
-pub record HashesHeld (l : List ℕ) (e : ℕ) (b : List ℕ) (m : ℕ) : Type 0 where
-  pub inside : m ≤ stored_bytes
-  pub is : (ask : List ℕ → Ask) → list_call ask (rest l (e + 1)) ≡ some (Asks (On (ask (hashes_in (take m b)))))
+-- the list behind the comma at index e
+abbrev pub HashesAs : List ℕ → ℕ → Option (Bor (List ℕ)) → Type 0
+HashesAs l e None = (ask : List ℕ → Ask) → list_call ask (rest l (e + 1)) ≡ none
+HashesAs l e (Some s) = (length s.now ≤ stored_bytes) × ((ask : List ℕ → Ask) → list_call ask (rest l (e + 1)) ≡ some (Asks (On (ask (hashes_in s.now)))))
 
-abbrev pub HashesAs : List ℕ → ℕ → List ℕ → Option ℕ → Type 0
-HashesAs l e b None = (ask : List ℕ → Ask) → list_call ask (rest l (e + 1)) ≡ none
-HashesAs l e b (Some m) = HashesHeld l e b m
-
-pub record HashesGiven (l : List ℕ) (e : ℕ) (b : List ℕ) (r : Option ℕ) : Type 0 where
-  pub is : HashesAs l e b r
+pub record HashesGiven (l : List ℕ) (e : ℕ) (r : Option (Bor (List ℕ))) : Type 0 where
+  pub is : HashesAs l e r

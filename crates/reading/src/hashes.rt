@@ -30,7 +30,9 @@ impl Element for ListedHash {
 
     ghost reads = { taking hash_of };
 
-    ghost size = { hash_bytes };
+    ghost SIZE = { hash_bytes };
+
+    const SIZE: usize = HASH_BYTES;
 
     ghost held = { number 256 };
 
@@ -41,11 +43,10 @@ impl Element for ListedHash {
     }
 }
 
-// The list behind the comma at index e, the line's last fields: how many bytes hold it.
-pub fn read_list(line: &[u8], e: usize, hashes: &mut [u8]) -> Option<usize>
+// The list behind the comma at index e, the line's last fields: its bytes, of those lent.
+pub fn read_list<'a>(line: &[u8], e: usize, hashes: &'a mut [u8]) -> Option<&'a [u8]>
     requires { (length line.now ≤ longest_line) × (stored_bytes ≤ length hashes.old) }
-    ensures { HashesGiven line.now e hashes.new result }
+    ensures { HashesGiven line.now e result }
 {
-    let n = list::read_list::<ListedHash>(line, e, HASHES, hashes)?;
-    Some(n * HASH_BYTES)
+    list::read_list::<ListedHash>(line, e, HASHES, hashes)
 }

@@ -14,21 +14,23 @@ pub trait Element {
     ghost reads: { Reader Value };
 
     // how many bytes hold it
-    ghost size: { ℕ };
+    ghost SIZE: { ℕ };
+
+    const SIZE: usize;
 
     // what they hold
     ghost held: { List ℕ → Value };
 
     // Puts the element behind the comma at index e into the buffer, as the i-th: where its last field ends.
     fn take(line: &[u8], e: usize, i: usize, buffer: &mut [u8]) -> Option<usize>
-        requires { size * i + size ≤ length buffer.old }
-        ensures { Taken reads size held line.now e i buffer.old buffer.new result };
+        requires { SIZE * i + SIZE ≤ length buffer.old }
+        ensures { Taken reads SIZE held line.now e i buffer.old buffer.new result };
 }
 
 // The n elements whose fields stand behind the comma at index e, and where the last ends.
 pub fn read_all<E: Element>(line: &[u8], e: usize, n: usize, buffer: &mut [u8]) -> Option<usize>
-    requires { E.size * n ≤ length buffer.old }
-    ensures { ListRead E.reads line.now e n (recs E.size E.held n buffer.new) result }
+    requires { E.SIZE * n ≤ length buffer.old }
+    ensures { ListRead E.reads line.now e n (recs E.SIZE E.held n buffer.new) result }
 {
     let mut to = e;
     for i in 0..n {
@@ -37,10 +39,15 @@ pub fn read_all<E: Element>(line: &[u8], e: usize, n: usize, buffer: &mut [u8]) 
     Some(to)
 }
 
-// The list behind the comma at index e, the line's last fields: how many elements stand in the bytes.
-pub fn read_list<E: Element>(line: &[u8], e: usize, most: usize, buffer: &mut [u8]) -> Option<usize>
-    requires { E.size * most ≤ length buffer.old }
-    ensures { WholeList E.reads line.now e most (λ n. recs E.size E.held n buffer.new) result }
+// The list behind the comma at index e, the line's last fields: the bytes that hold it, of those lent.
+pub fn read_list<'a, E: Element>(
+    line: &[u8],
+    e: usize,
+    most: usize,
+    buffer: &'a mut [u8],
+) -> Option<&'a [u8]>
+    requires { E.SIZE * most ≤ length buffer.old }
+    ensures { WholeList E.reads E.SIZE E.held line.now e most result }
 {
     let count = number_at(line, e)?;
     if (most as u64) < count.value {
@@ -51,5 +58,5 @@ pub fn read_list<E: Element>(line: &[u8], e: usize, most: usize, buffer: &mut [u
     if end < line.len() {
         return None;
     }
-    Some(n)
+    Some(&buffer[..n * E::SIZE])
 }

@@ -10,7 +10,7 @@ pub returns : goal.returns
 returns c =
     let h = hashes_held c.read_list.ensures
     c.in-Some.is in
-    keeps-call (sym (h.is (hashes_ask c.args.w
+    keeps-call (sym (h.1 (hashes_ask c.args.w
     (values_of c.args.v))))
     (hashes_unplanned c.args.w
     (values_of c.args.v) _)

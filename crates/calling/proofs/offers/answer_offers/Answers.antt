@@ -11,5 +11,5 @@ pub returns : goal.returns
 returns c =
     let h = offers_held c.read_list.ensures
     c.in-Some.is in
-    keeps-call (sym (h.is (inventory_ask (values_of c.args.v)))) (offers_unplanned (values_of c.args.v) _)
+    keeps-call (sym (h.held.is (inventory_ask (values_of c.args.v)))) (offers_unplanned (values_of c.args.v) _)
     (carried _ c.announce_transactions-a.ensures refl (c.number.ensures.text _))

@@ -1,7 +1,6 @@
 -- `inventory::items::read_list` meets its contract.
-use native.Mathlib.Omega.{arith}
 use Rattle.inventory.proofs.Listing.{items-given}
 use Rattle.inventory.proofs.items.read_list.Goals as goal
 
 pub returns : goal.returns
-returns c = items-given c.requires.0 (omega (arith, c.read_list.auto, c.requires.1)) c.read_list.ensures
+returns c = items-given c.requires.0 c.read_list.ensures

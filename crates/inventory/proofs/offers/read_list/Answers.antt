@@ -30,17 +30,8 @@ returns-then-end-line c =
 
 pub returns : goal.returns
 returns c =
-    offers-are (omega (arith, c.if-count.false))
-    (omega (
-      arith,
-      c.read_offers.auto,
-      c.requires.1,
-    ))
-    (omega (
-      arith,
-      c.read_offers.auto,
-      c.requires.2,
-    ))
+    offers-are c.read_offers.new.items c.read_offers.new.priorities (omega (arith, c.if-count.false)) (omega (arith, c.read_offers.auto, c.requires.1))
+    (omega (arith, c.read_offers.auto, c.requires.2)) _ refl refl
     (list_is offer_then c.number_at.ensures
     (ap number_at c.in_ok-count.was) refl
     c.read_offers.ensures c.in_ok-end.was c.if-end-line.false)

@@ -8,7 +8,7 @@ use Rattle.reading.proofs.list.read_all.Goals as goal
 pub loop-i-init : goal.loop-i-init
 loop-i-init g c =
     let m = g.E.Element in
-    (omega arith, refl, none_read m.reads c.args.line.now c.args.e c.args.n (none_stored m.size m.held c.args.buffer.now))
+    (omega arith, refl, none_read m.reads c.args.line.now c.args.e c.args.n (none_stored m.SIZE m.held c.args.buffer.now))
 
 pub returns-in_err-to : goal.returns-in_err-to
 returns-in_err-to g c = rw c.from_residual.ensures (record { is = no-element c.loop-i.invariant.2 (omega arith) (not_taken c.take.ensures c.in_err-to.was) refl })

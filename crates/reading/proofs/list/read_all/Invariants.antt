@@ -9,4 +9,4 @@ use Rattle.reading.proofs.list.read_all.Given as goal
 abbrev pub invariant-loop-i : goal.invariant-loop-i
 invariant-loop-i g l =
     let m = g.E.Element in
-    (l.i ≤ l.n) × (length l.buffer ≡ length l.initial.buffer) × ElementsRead m.reads l.line l.e l.n l.to l.i (recs m.size m.held l.i l.buffer)
+    (l.i ≤ l.n) × (length l.buffer ≡ length l.initial.buffer) × ElementsRead m.reads l.line l.e l.n l.to l.i (recs m.SIZE m.held l.i l.buffer)

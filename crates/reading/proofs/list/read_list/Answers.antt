@@ -3,6 +3,7 @@ use mathlib.Core.Path.{refl, ap}
 use native.Mathlib.Nat.{mul-le-mul_left}
 use native.Mathlib.Omega.{arith}
 use Rattle.reading.specs.Given.{number_at}
+use Rattle.reading.proofs.Stored.{list_lent}
 use Rattle.reading.proofs.Elements.{no-count, too_long, no-list, more_fields, list_is}
 use Rattle.reading.proofs.list.read_list.Goals as goal
 
@@ -23,4 +24,7 @@ returns-then-end-line g c =
 
 pub returns : goal.returns
 returns g c =
-    record { is = (omega arith, list_is g.E.Element.reads c.number_at.ensures (ap number_at c.in_ok-count.was) refl c.read_all.ensures c.in_ok-end.was c.if-end-line.false) }
+    let m = g.E.Element in
+    let n = c.in_ok-count.count.value in
+    list_lent m.SIZE m.held c.read_all.new.buffer (omega arith) (omega (arith, c.read_all.auto, c.requires, mul-le-mul_left {m = n} {n = c.args.most} m.SIZE (omega arith))) (rw c.SIZE.ensures)
+    (list_is m.reads c.number_at.ensures (ap number_at c.in_ok-count.was) refl c.read_all.ensures c.in_ok-end.was c.if-end-line.false)
