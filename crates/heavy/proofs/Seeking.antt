@@ -94,8 +94,8 @@ counts-map [] = refl
 counts-map (c ∷ cs) = ap (λ (ks : List ℕ). c.count ∷ ks) (counts-map cs)
 
 -- of an iterator that yields the counts of counters
-pub none_above_counts : {S : Type 0} {steps : S → Option ℕ → S → Type 0} {s : S} {most : ℕ} {r : Bool} (cs : List Counter) → NoneAbove steps s most r → YieldsList steps (λ k. k) s (map (λ c. c.count) cs)
-    → r ≡ none_above most (counts_in cs)
+pub none_above_counts : {S : Type 0} {steps : S → Option ℕ → S → Type 0} {s : S} {most : ℕ} {r : Bool} (cs : List Counter) → NoneAbove steps s most r
+    → YieldsList steps (λ k. k) s (map (λ c. c.count) cs) → r ≡ none_above most (counts_in cs)
 none_above_counts cs n y = n.is (counts_in cs) (rw (counts-map cs) at y.runs)
 
 -- ---- the first i counts at 0

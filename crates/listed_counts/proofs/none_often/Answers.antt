@@ -15,6 +15,7 @@ returns g c =
     let r = c.restart.ensures in
     let even = length-names c.zeros-counters.result ∙ sym (length-counts c.zeros-counters.result) in
     let cs = c.count_lines.new.counters in
-    let told = none_above_counts cs c.none_above.ensures (YieldsList-from_map _ (λ d. d.count) (YieldsList-at c.map.ensures.source (YieldsList-from_slice cs c.iter.ensures.rest)) c.map.ensures.closure (λ x n q h. search (rules, tests))) in
+    let told = none_above_counts cs c.none_above.ensures
+    (YieldsList-from_map _ (λ d. d.count) (YieldsList-at c.map.ensures.source (YieldsList-from_slice cs c.iter.ensures.rest)) c.map.ensures.closure (λ x n q h. search (rules, tests))) in
     let again = ap length (sym r.0) ∙ length-names c.restart.new.counters ∙ sym (length-counts c.restart.new.counters) in
     verdict_with k.0 (passes-tell c.note_lines.ensures (rw r.0 at c.count_lines.ensures) told even k.1 again r.1)
