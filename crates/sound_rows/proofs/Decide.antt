@@ -1,15 +1,12 @@
 -- Tests, and walks along the records of a region that stop where a test fails.
 use Prim.Native.Nat.{ℕ, suc, ◌+◌, ◌-◌, ◌*◌, ◌≤◌, ◌<◌}
-use mathlib.Core.Path.{◌≡◌, refl, sym}
-use mathlib.Core.Bool.{Bool, true, false, not, ◌&&◌}
-use borrow.Author.Tests.{not-true, not-false, ltb-true, ltb-false}
+use mathlib.Core.Path.{◌≡◌}
+use mathlib.Core.Bool.{Bool, true, false}
 use mathlib.Core.List.{List, [], ◌∷◌}
 use native.Mathlib.Omega.{arith}
-use lib.Dec.{ltb}
 use lib.ListN.{take, drop}
 use lib.Seq.{drop-drop}
 use Rattle.words.specs.Words.{recs, Decides}
-use Rattle.machine.proofs.Tests.{never}
 
 -- ---- tests
 
@@ -23,30 +20,6 @@ iff_self = record { to = λ p. p; from = λ p. p }
 pub decides_iff : {P Q : Type 0} (b : Bool) → Iff P Q → Decides b P → Decides b Q
 decides_iff true e d = e.to d
 decides_iff false e d = λ q. d (e.from q)
-
--- the same as Decides, in a form from which P is inferred: for tests that are put together without a branch
-pub record Test (b : Bool) (P : Type 0) : Type 0 where
-  pub holds : b ≡ true → P
-  pub fails : b ≡ false → P → ⊥
-
-pub test-decides : {P : Type 0} (b : Bool) → Test b P → Decides b P
-test-decides true t = t.holds refl
-test-decides false t = t.fails refl
-
-pub test_and : {P Q : Type 0} (a b : Bool) → Test a P → Test b Q → Test (a && b) (P × Q)
-test_and true true p q = record { holds = λ _. (p.holds refl, q.holds refl); fails = λ e. never (sym e) }
-test_and true false p q = record { holds = λ e. never e; fails = λ _ z. q.fails refl z.1 }
-test_and false b p q = record { holds = λ e. never e; fails = λ _ z. p.fails refl z.0 }
-
-pub test_less : (x y : ℕ) → Test (ltb x y) (x < y)
-test_less x y = record { holds = ltb-true x y; fails = λ e h. absurd (omega (arith, ltb-false x y e)) }
-
--- what the test `!b` of the code says
-pub passed : (P : Type 0) (b : Bool) → not b ≡ false → Decides b P → P
-passed P b e d = rw (not-false b e) at d
-
-pub failed : (P : Type 0) (b : Bool) → not b ≡ true → Decides b P → P → ⊥
-failed P b e d = rw (not-true b e) at d
 
 -- ---- records in a row, each fit to stand behind the one before it
 
@@ -80,9 +53,6 @@ rest_none k f n i w h = let e : n - i ≡ 0 = omega arith in rw e
 module _ {A : Type 0} (R : A → A → Type 0) (k : ℕ) (f : List ℕ → A) (n : ℕ) (w : List ℕ) where
   abbrev pub Walk : Type 0 → A → ℕ → Type 0
   Walk X p i = Iff X (Chain R p (rest k f n i w))
-
-  pub walk_start : (p : A) → Walk (Chain R p (recs k f n w)) p 0
-  walk_start p = rw rest_all iff_self
 
   pub walk_turn : {X : Type 0} (p : A) {a : A} (i : ℕ) → i < n → Walk X p i → a ≡ f (take k (drop (k * i) w)) → R p a → Walk X a (i + 1)
   unfolding Chain

@@ -5,10 +5,8 @@ use lib.ListN.{length, drop}
 use Rattle.words.specs.Words.{words}
 use Rattle.words.proofs.Records.{length-recs}
 use Rattle.regions.specs.Rows.{row_size, read_row}
-use Rattle.sound_rows.specs.Groups.{Once}
 use Rattle.sound_rows.specs.declared.part.Part.{Part}
 use Rattle.sound_rows.specs.Parts.{rows_of}
-use Rattle.sound_rows.proofs.Decide.{passed, failed}
 use Rattle.sound_rows.proofs.Groups.{apart_iff, group_decides}
 use Rattle.sound_rows.proofs.group.group_fits.Goals as goal
 
@@ -19,11 +17,7 @@ pub returns-then-a-b : goal.returns-then-a-b
 returns-then-a-b c = λ g. omega (arith, g.few, length-rows c.args.a, length-rows c.args.b)
 
 pub returns-then-not-conns_once : goal.returns-then-not-conns_once
-returns-then-not-conns_once c =
-    let x = c.args in
-    let a = rows_of x.a in
-    let b = rows_of x.b in
-    λ g. failed (Once a b) c.conns_once.result c.if-not-conns_once.true-raw c.conns_once.ensures ((apart_iff a b).from g.once)
+returns-then-not-conns_once c = λ g. c.if-not-conns_once.ensures ((apart_iff (rows_of c.args.a) (rows_of c.args.b)).from g.once)
 
 pub returns : goal.returns
 returns c =
@@ -33,5 +27,5 @@ returns c =
     let la : length a ≡ x.a.to - x.a.from = length-rows x.a in
     let lb : length b ≡ x.b.to - x.b.from = length-rows x.b in
     let few : length a + length b ≤ x.most = omega arith in
-    let o = passed (Once a b) c.conns_once.result c.if-not-conns_once.false-raw c.conns_once.ensures in
+    let o = c.if-not-conns_once.ensures in
     group_decides a b c.owners.result c.owners-2.result few o.0 o.1 c.owners.ensures.0 c.owners-2.ensures.0

@@ -1,9 +1,8 @@
 use borrow.Author.Rules.{rules}
 use native.Mathlib.Omega.{arith}
-use Rattle.words.specs.Words.{words, Decides}
+use Rattle.words.specs.Words.{words}
 use Rattle.regions.specs.Rows.{quad_number}
-use Rattle.sound_rows.specs.Groups.{rows_in, Run, GroupFits}
-use Rattle.sound_rows.proofs.Decide.{passed, failed}
+use Rattle.sound_rows.specs.Groups.{Run}
 use Rattle.sound_rows.proofs.Groups.{group_off, off_turn, off_stop, halves, groups_end}
 use Rattle.sound_rows.proofs.Halves.{txid_level, wtxid_level}
 use Rattle.sound_rows.proofs.group.groups_fit.Goals as goal
@@ -28,12 +27,11 @@ returns-then-not-group_fits c =
     let h = quad_number c.least_hash-h.result in
     let left : Run w i m h a = rw (c.new.ensures.0, c.new.ensures.1, c.new.ensures.2) at c.run_end-a.ensures in
     let right : Run w j n h b = rw (c.new-in-loop-i.ensures.0, c.new-in-loop-i.ensures.1, c.new-in-loop-i.ensures.2) at c.run_end-b.ensures in
-    let G = GroupFits c.args.most (rows_in w i a) (rows_in w j b) in
-    let fits : Decides c.group_fits.result G = rw (c.new-txid.ensures.0, c.new-txid.ensures.1, c.new-txid.ensures.2, c.new-wtxid.ensures.0, c.new-wtxid.ensures.1, c.new-wtxid.ensures.2)
-    at c.group_fits.ensures in
+    let fits = rw (c.new-txid.ensures.0, c.new-txid.ensures.1, c.new-txid.ensures.2, c.new-wtxid.ensures.0, c.new-wtxid.ensures.1, c.new-wtxid.ensures.2)
+    at c.if-not-group_fits.ensures in
     λ s. off_stop (c.loop-i.invariant.3 s)
     (group_off w i m j n h a b (omega arith) (omega arith) (txid_level n w s m c.seek_row-m.ensures) (wtxid_level n w s m c.seek_row-m.ensures) c.least_hash-h.ensures left right)
-    (failed G c.group_fits.result c.if-not-group_fits.true-raw fits)
+    fits
 
 pub loop-i-preserved : goal.loop-i-preserved
 loop-i-preserved c =
@@ -47,15 +45,14 @@ loop-i-preserved c =
     let h = quad_number c.least_hash-h.result in
     let left : Run w i m h a = rw (c.new.ensures.0, c.new.ensures.1, c.new.ensures.2) at c.run_end-a.ensures in
     let right : Run w j n h b = rw (c.new-in-loop-i.ensures.0, c.new-in-loop-i.ensures.1, c.new-in-loop-i.ensures.2) at c.run_end-b.ensures in
-    let G = GroupFits c.args.most (rows_in w i a) (rows_in w j b) in
-    let fits : Decides c.group_fits.result G = rw (c.new-txid.ensures.0, c.new-txid.ensures.1, c.new-txid.ensures.2, c.new-wtxid.ensures.0, c.new-wtxid.ensures.1, c.new-wtxid.ensures.2)
-    at c.group_fits.ensures in (
+    let fits = rw (c.new-txid.ensures.0, c.new-txid.ensures.1, c.new-txid.ensures.2, c.new-wtxid.ensures.0, c.new-wtxid.ensures.1, c.new-wtxid.ensures.2)
+    at c.if-not-group_fits.ensures in (
       omega (arith, left.least, left.most),
       omega (arith, right.least, right.most),
       omega (arith, right.least, right.most),
       λ s. off_turn (c.loop-i.invariant.3 s)
           (group_off w i m j n h a b (omega arith) (omega arith) (txid_level n w s m c.seek_row-m.ensures) (wtxid_level n w s m c.seek_row-m.ensures) c.least_hash-h.ensures left right)
-          (passed G c.group_fits.result c.if-not-group_fits.false-raw fits),
+          fits,
     )
 
 pub returns : goal.returns

@@ -1,11 +1,9 @@
 use Prim.Native.Nat.{◌+◌, ◌-◌, ◌≤◌}
-use mathlib.Core.Path.{◌≡◌}
 use mathlib.Core.List.{◌++◌}
-use lib.ListN.{length}
 use Rattle.words.specs.Words.{recs, words}
 use Rattle.regions.specs.Rows.{row_size, read_row}
 use Rattle.sound_rows.specs.Rows.{RowsSound}
-use Rattle.sound_rows.specs.Groups.{GroupsSound, rows_in, conn_slots}
+use Rattle.sound_rows.specs.Groups.{GroupsSound, rows_in}
 use Rattle.sound_rows.proofs.Decide.{Iff}
 use Rattle.sound_rows.proofs.group.groups_fit.Given as goal
 

@@ -1,5 +1,4 @@
 use Prim.Native.Nat.{◌≤◌}
-use mathlib.Core.Path.{◌≡◌}
 use Rattle.words.specs.Words.{words}
 use Rattle.sound_rows.proofs.ConnMarks.{Marks}
 use Rattle.sound_rows.proofs.group.mark_conns.Given as goal
