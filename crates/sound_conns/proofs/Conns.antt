@@ -85,10 +85,6 @@ conns-entries rs cs f s = record { rise = tallied_rise 1 cs (rw s.tally (tally_f
 pub window-as : {ks : List ℕ} {rs : List Row} {cs : List Conn} {done last lo m m' : ℕ} → m ≡ m' → Iff (Window ks rs cs done last lo m) (Window ks rs cs done last lo m')
 window-as e = rw e iff_self
 
--- as far as another list that is as long
-pub below_as : {x m m' : ℕ} → m ≡ m' → x < m → x < m'
-below_as e h = omega arith
-
 module _ (rs : List Row) (c : ℕ) (v : List ℕ) where
   pub window_iff : (done last lo : ℕ) (t : List ℕ) → Tallied (names c v) rs (recs conn_size read_conn c v) done last lo t
       → Iff ((j : ℕ) → j < length t → lo + j < c → get_or t j 0 ≡ 0) (Window (names c v) rs (recs conn_size read_conn c v) done last lo (length t))

@@ -135,9 +135,6 @@ last_at n w lo {x} h r e =
 
 -- ---- the search
 
-pub place_found : (ks : List ℕ) (n x r : ℕ) → (r < n) × (get_or ks r 0 ≡ x) → Place ks n x r
-place_found ks n x r f = record { found = λ _. f.1; absent = λ h. absurd (omega (arith, f.0)) }
-
 pub place-absent : (ks : List ℕ) (n x i : ℕ) → length ks ≡ n → Sought ks n x i → ((i < n) × (get_or ks i 0 ≡ x) → ⊥) → Place ks n x n
 place-absent ks n x i e s none = record { found = λ h. absurd (omega arith); absent = λ _ r m. gone r m.at m.within m.is }
   where

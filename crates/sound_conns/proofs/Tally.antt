@@ -1,6 +1,6 @@
 -- Counters of the entries' rows.
 use Prim.Native.Nat.{ℕ, zero, suc, ◌+◌, ◌-◌, ◌*◌, ◌≤◌, ◌<◌}
-use mathlib.Core.Path.{◌≡◌, refl, sym, ap, ◌∙◌}
+use mathlib.Core.Path.{◌≡◌, sym, ap, ◌∙◌}
 use mathlib.Core.Logic.{◌⊎◌, inl, inr}
 use mathlib.Core.Bool.{Bool, true, false, ◌&&◌}
 use mathlib.Core.List.{List, [], ◌∷◌, ◌++◌}
@@ -22,7 +22,7 @@ use Rattle.store.specs.FlatSound.{count_rows, owns, ConnFits}
 use Rattle.store.proofs.Counts.{rows_append}
 use Rattle.store.proofs.Certify.{own-bit}
 use Rattle.sound_conns.specs.Conns.{half, held_by, owned_by, Counts, Left, names, Rising, Named, Less, Enough, Lessened}
-use Rattle.sound_conns.specs.Conns.{Short, Lessening, Inside, Holds, NamedIn, Took, Lacks, Taking, Tallied, blank, Within, Window}
+use Rattle.sound_conns.specs.Conns.{Short, Lessening, Inside, NamedIn, Took, Lacks, Taking, Tallied, blank, Within, Window}
 use Rattle.sound_rows.proofs.Decide.{Iff}
 use Rattle.sound_conns.proofs.Entries.{length-names, name-entry}
 
@@ -31,20 +31,6 @@ use Rattle.sound_conns.proofs.Entries.{length-names, name-entry}
 pub charged : (c : Conn) → ConnFits c → Left [] c (c.held + c.owned * half)
 unfolding count_rows
 charged c f = record { held = omega (arith, f.held); owned = omega (arith, f.held) }
-
-less : (own v : ℕ) → Enough own v → Less own v (v - (1 + own * half))
-less own v e = record { held = omega (arith, e.0, e.1); owned = omega (arith, e.0, e.1) }
-
-pub lessened_here : (t : List ℕ) (lo k own : ℕ) → lo ≤ k → k - lo < length t → Enough own (get_or t (k - lo) 0)
-    → Lessened t (set t (k - lo) (get_or t (k - lo) 0 - (1 + own * half))) lo k own
-lessened_here t lo k own h l e =
-    let v : ℕ = get_or t (k - lo) 0 - (1 + own * half) in record {
-      here = λ j m q. let q' : j ≡ k - lo = omega arith in rw (q', get_or-set_same t (k - lo) v 0 l) (less own (get_or t (k - lo) 0) e);
-      other = λ j n. get_or-set_other t (k - lo) j v 0 (λ q. n (omega arith));
-    }
-
-pub short_here : (t : List ℕ) (lo k own : ℕ) → lo ≤ k → k - lo < length t → (Enough own (get_or t (k - lo) 0) → ⊥) → Short t lo k own
-short_here t lo k own h l n = record { at = k - lo; within = l; is = omega arith; short = n }
 
 -- ---- rows counted one by one
 
@@ -102,13 +88,6 @@ counts-grow p n i w h =
 -- ---- a row is taken
 
 module _ (ks : List ℕ) (done last lo x own : ℕ) (t : List ℕ) where
-  pub took_outside : (Inside done last x → ⊥) → Holds done last ks lo (length t) → Took ks done last lo x own t t
-  took_outside n h = record {
-    here = λ j b l e. absurd (n (rw e at (h j b l)));
-    other = λ j b l e. refl;
-    named = λ i. absurd (n i);
-  }
-
   module _ (k : ℕ) (t' : List ℕ) (h : k < length ks) (q : get_or ks k 0 ≡ x) where
     took_off : Rising ks → Lessened t t' lo k own → Took ks done last lo x own t t'
     took_off u b = record {
@@ -216,9 +195,3 @@ module _ (n : ℕ) (w : List ℕ) (i : ℕ) {e : Conn} (h : i < n) (q : e ≡ re
         rw (g, d', get_or-set_same t m v 0 f) (rw entry-at at s)
     | inr d ↦ let d' = eqb-false j m d in rw (get_or-set_other t m j v 0 d') (k j (omega (arith, d')) l)
   ]
-
-pub zero_turn : (t : List ℕ) (m : ℕ) → ((j : ℕ) → j < m → get_or t j 0 ≡ 0) → get_or t m 0 ≡ 0 → (j : ℕ) → j < m + 1 → get_or t j 0 ≡ 0
-zero_turn t m k z j h = elim (test (eqb j m)) [
-  | inl d ↦ rw (eqb-true j m d) z
-  | inr d ↦ k j (omega (arith, eqb-false j m d))
-]

@@ -23,7 +23,15 @@ pub enum Way {
     SpreadAnew,
 }
 
-// The filled tables of a window: the slots of both, the number of the first's less one, and how the first was filled.
+// The tables of a window while they are filled: the slots of both, and the number of the first's less one.
+pub struct Filling<'a> {
+    pub slots: &'a mut [u16],
+    pub mask: u64,
+    ghost narrow: { mask < 2 ^ 32 },
+    ghost roomy: { mask + 1 + mask / 4 < length slots.now },
+}
+
+// The filled tables: the same, and how the first was filled.
 #[derive(Clone, Copy)]
 pub struct Guesses<'a> {
     pub slots: &'a [u16],
@@ -50,7 +58,8 @@ fn windowed(m: usize) -> usize
 // ---- the search
 
 // 1 if k is not above x, else 0; numbers that differ in the lowest bit alone count as equal. Written so that no branch is compiled: a
-// processor that guesses which way a search goes is wrong half of the time.
+// processor that guesses which way a search goes is wrong half of the time. (Tried with `if k <= x` in `ahead`, which is compiled to a branch: of connections
+// chosen so that the guesses fail, 8,192 of 100,000 rows took 9.7 ms in place of 5.2.)
 fn not_above(k: u64, x: u64) -> u64
     ensures { result ≤ 1 }
 {
@@ -98,8 +107,7 @@ fn seek_entry(pass: Pass, x: u64) -> usize
     conns.count
 }
 
-// ---- the slots (while they are filled, lent ones that change, with the mask beside them: `Guesses` holds them when they are. A type of the mask would hold one of its two
-// bounds: the other is of the slots too)
+// ---- the slots
 
 // (Spread by a factor for each of its halves.)
 fn spread(x: u64, way: Way) -> u64 {
@@ -136,61 +144,63 @@ fn second_slot(x: u64, mask: u64) -> usize
         )
 }
 
-// Keeps for the entries from lo on where they are. (Of two that meet, the later.)
-fn fill_first(pass: Pass, guess: &mut [u16], mask: u64, way: Way)
-    requires { (mask < 2 ^ 32) × (mask + 1 + mask / 4 < length guess.old) }
-    ensures { length guess.new ≡ length guess.old }
-{
-    for j in 0..windowed(pass.conns.count - pass.lo) {
-        let x = words::get(pass.conns.bytes, (pass.lo + j) * CONN);
-        let at = slot(x, way, mask);
-        guess[at] = j as u16;
-    }
-}
-
-// Keeps where x's entry is in the second table, if it lost its slot in the first. 1 if it did, else 0: a number, since its caller adds it up.
-fn give_second(guess: &mut [u16], mask: u64, way: Way, x: u64, j: usize) -> usize
-    requires { (mask < 2 ^ 32) × (mask + 1 + mask / 4 < length guess.old) × (j < many) }
-    ensures { (result ≤ 1) × (length guess.new ≡ length guess.old) }
-{
-    let at = slot(x, way, mask);
-    if usize::from(guess[at]) == j {
-        return 0;
-    }
-    let to = second_slot(x, mask);
-    guess[to] = j as u16;
-    1
-}
-
-// The same for each of the entries from lo on; how many lost their slot.
-fn fill_second(pass: Pass, guess: &mut [u16], mask: u64, way: Way) -> usize
-    requires { (mask < 2 ^ 32) × (mask + 1 + mask / 4 < length guess.old) }
-    ensures { (result ≤ many) × (length guess.new ≡ length guess.old) }
-{
-    let mut lost = 0;
-    for j in 0..windowed(pass.conns.count - pass.lo) {
-        let x = words::get(pass.conns.bytes, (pass.lo + j) * CONN);
-        lost += give_second(guess, mask, way, x, j);
-    }
-    lost
-}
-
-// Fills both tables for the window from lo on, and says in which way the first was filled: one that loses no more than a fourth of the
-// entries, if there is one.
-pub fn fill_guesses(pass: Pass, guess: &mut [u16], mask: u64) -> Way
-    requires { (mask < 2 ^ 32) × (mask + 1 + mask / 4 < length guess.old) }
-    ensures { length guess.new ≡ length guess.old }
-{
-    let few = windowed(pass.conns.count - pass.lo) / 4;
-    for way in [Way::Plain, Way::Spread] {
-        fill_first(pass, guess, mask, way);
-        if fill_second(pass, guess, mask, way) <= few {
-            return way;
+impl<'a> Filling<'a> {
+    // Keeps for the entries from lo on where they are. (Of two that meet, the later.)
+    fn fill_first(&mut self, pass: Pass, way: Way) {
+        for j in 0..windowed(pass.conns.count - pass.lo) {
+            let x = words::get(pass.conns.bytes, (pass.lo + j) * CONN);
+            let at = slot(x, way, self.mask);
+            self.slots[at] = j as u16;
         }
     }
-    fill_first(pass, guess, mask, Way::SpreadAnew);
-    fill_second(pass, guess, mask, Way::SpreadAnew);
-    Way::SpreadAnew
+
+    // Keeps where x's entry is in the second table, if it lost its slot in the first. 1 if it did, else 0: a number, since its caller adds it up.
+    fn give_second(&mut self, way: Way, x: u64, j: usize) -> usize
+        requires { j < many }
+        ensures { result ≤ 1 }
+    {
+        let at = slot(x, way, self.mask);
+        if usize::from(self.slots[at]) == j {
+            return 0;
+        }
+        let to = second_slot(x, self.mask);
+        self.slots[to] = j as u16;
+        1
+    }
+
+    // The same for each of the entries from lo on; how many lost their slot.
+    fn fill_second(&mut self, pass: Pass, way: Way) -> usize
+        ensures { result ≤ many }
+    {
+        let mut lost = 0;
+        for j in 0..windowed(pass.conns.count - pass.lo) {
+            let x = words::get(pass.conns.bytes, (pass.lo + j) * CONN);
+            lost += self.give_second(way, x, j);
+        }
+        lost
+    }
+
+    // Fills both tables for the window from lo on, and says in which way the first was filled: one that loses no more than a fourth of the
+    // entries, if there is one.
+    fn fill(&mut self, pass: Pass) -> Way {
+        let few = windowed(pass.conns.count - pass.lo) / 4;
+        for way in [Way::Plain, Way::Spread] {
+            self.fill_first(pass, way);
+            if self.fill_second(pass, way) <= few {
+                return way;
+            }
+        }
+        self.fill_first(pass, Way::SpreadAnew);
+        self.fill_second(pass, Way::SpreadAnew);
+        Way::SpreadAnew
+    }
+
+    // The tables, filled for the window from lo on.
+    pub fn filled(mut self, pass: Pass) -> Guesses<'a> {
+        let way = self.fill(pass);
+        let Filling { slots, mask } = self;
+        Guesses { slots, mask, way }
+    }
 }
 
 // Where x's entry is, or the number of entries: both guesses of the window from lo on are tried first.

@@ -6,7 +6,7 @@
 // own last entry (`last`).
 #![tactic(auto)]
 
-use guesses::Guesses;
+use guesses::{Filling, Guesses};
 use machine::limits::{MAX_PEER_ANNOUNCEMENTS, MAX_PEER_IN_FLIGHT};
 use regions::listed::Records;
 use regions::{CONN, Conn, Row};
@@ -180,24 +180,20 @@ fn used_up(n: usize, lo: usize, t: &[u32]) -> bool
     t.iter().take(n.saturating_sub(lo)).all(|v| *v == 0)
 }
 
-// Whether each of the entries that t has a counter for has its rows' counts, and each connection inside has an entry. (Slots and mask go by
-// themselves till they are filled: `Guesses` holds them from there on.)
-fn window_fits(rows: Records<Row>, pass: Pass, t: &mut [u32], slots: &mut [u16], mask: u64) -> bool
-    requires { Entries (recs conn_size read_conn pass.conns.count (words pass.conns.bytes.now)) × (length t.old ≤ many)
-        × (mask < 2 ^ 32) × (mask + 1 + mask / 4 < length slots.old) }
+// Whether each of the entries that t has a counter for has its rows' counts, and each connection inside has an entry.
+fn window_fits(rows: Records<Row>, pass: Pass, t: &mut [u32], guesses: Guesses) -> bool
+    requires { Entries (recs conn_size read_conn pass.conns.count (words pass.conns.bytes.now)) × (length t.old ≤ many) }
     ensures { Decides result (Window (names pass.entry.conns.count (words pass.entry.conns.bytes.now)) (recs row_size read_row rows.entry.count (words rows.entry.bytes.now))
         (recs conn_size read_conn pass.entry.conns.count (words pass.entry.conns.bytes.now)) pass.entry.done pass.entry.last pass.entry.lo (length t.old)) }
 {
     charge_all(pass, t);
-    let way = guesses::fill_guesses(pass, slots, mask);
-    let guesses = Guesses { slots, mask, way };
     if !count_rows(rows, pass, t, guesses) {
         return false;
     }
     used_up(pass.conns.count, pass.lo, t)
 }
 
-// The same, with N counters and SLOTS slots on the stack.
+// The same, with N counters and SLOTS slots on the stack, of which the first table has one more than mask says.
 fn fits_with<const N: usize, const SLOTS: usize>(rows: Records<Row>, pass: Pass, mask: u64) -> bool
     requires { Entries (recs conn_size read_conn pass.conns.count (words pass.conns.bytes.now))
         × (mask < 2 ^ 32) × (mask + 1 + mask / 4 < SLOTS) × (SLOTS < 2 ^ 32) × (N ≤ many) }
@@ -206,7 +202,9 @@ fn fits_with<const N: usize, const SLOTS: usize>(rows: Records<Row>, pass: Pass,
 {
     let mut slots: [u16; SLOTS] = [0; SLOTS];
     let mut t: [u32; N] = [0; N];
-    window_fits(rows, pass, &mut t, &mut slots, mask)
+    let slots = &mut slots;
+    let filling = Filling { slots, mask };
+    window_fits(rows, pass, &mut t, filling.filled(pass))
 }
 
 // The last connection of the many entries from lo on, or the greatest number if no entry is behind them.

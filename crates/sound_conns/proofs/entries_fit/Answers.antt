@@ -3,21 +3,17 @@ use native.Mathlib.Omega.{arith}
 use Rattle.words.specs.Words.{recs, words}
 use Rattle.regions.specs.Rows.{conn_size, read_conn}
 use Rattle.machine.proofs.Tests.{never}
-use Rattle.sound_conns.specs.Conns.{EntryStep, blank}
-use Rattle.sound_rows.proofs.Decide.{walk_start, walk_turn, walk_stop, walk_end, passed, failed}
+use Rattle.sound_conns.specs.Conns.{EntryStep}
+use Rattle.sound_rows.proofs.Decide.{walk_turn, walk_stop, walk_end}
 use Rattle.sound_conns.proofs.Entries.{entries_iff, length-names, conn-typed, low_turn}
 use Rattle.sound_conns.proofs.entries_fit.Goals as goal
-
-pub loop-i-init : goal.loop-i-init
-loop-i-init c = (omega arith, (λ k h. absurd (omega arith)), walk_start EntryStep conn_size read_conn c.args.conns.count (words c.args.conns.bytes.now) blank)
 
 pub returns-then-not-entry_fits : goal.returns-then-not-entry_fits
 returns-then-not-entry_fits c =
     let w = words c.args.conns.bytes.now in
     let n = c.args.conns.count in (
       (λ z. walk_stop EntryStep conn_size read_conn n w c.loop-i.p c.loop-i.i (omega arith) c.loop-i.invariant.2 c.get-c.ensures.words_are
-          (failed (EntryStep c.loop-i.p c.get-c.result) c.entry_fits.result c.if-not-entry_fits.true-raw c.entry_fits.ensures)
-          ((entries_iff (recs conn_size read_conn n w)).from z)),
+          c.if-not-entry_fits.ensures ((entries_iff (recs conn_size read_conn n w)).from z)),
       λ e. never e,
     )
 
@@ -27,8 +23,7 @@ loop-i-preserved c =
     let n = c.args.conns.count in (
       search rules,
       low_turn n w c.loop-i.i (omega arith) c.get-c.ensures.words_are (conn-typed c.get-c.result c.get-c.type_inv) c.loop-i.invariant.1,
-      walk_turn EntryStep conn_size read_conn n w c.loop-i.p c.loop-i.i (omega arith) c.loop-i.invariant.2 c.get-c.ensures.words_are
-          (passed (EntryStep c.loop-i.p c.get-c.result) c.entry_fits.result c.if-not-entry_fits.false-raw c.entry_fits.ensures),
+      walk_turn EntryStep conn_size read_conn n w c.loop-i.p c.loop-i.i (omega arith) c.loop-i.invariant.2 c.get-c.ensures.words_are c.if-not-entry_fits.ensures,
     )
 
 pub returns : goal.returns
