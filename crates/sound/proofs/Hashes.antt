@@ -51,9 +51,6 @@ pub quad_take : (u : List ℕ) → read_quad (take 4 u) ≡ read_quad u
 quad_take u = rw (get_or-take 4 u 0 0 (omega arith), get_or-take 4 u 1 0 (omega arith), get_or-take 4 u 2 0 (omega arith), get_or-take 4 u 3 0 (omega arith))
 
 module _ (w : List ℕ) (a : ℕ) where
-  hash_at : ℕ → ℕ
-  hash_at k = read_hash (take 4 (drop (4 * k) (drop a w)))
-
   -- as `read_quad` reads it
   pub hash_read : (k : ℕ) {q : Quad} → q ≡ read_quad (drop (a + k * 4) w) → quad_number q ≡ read_hash (take 4 (drop (4 * k) (drop a w)))
   unfolding read_hash
@@ -83,3 +80,6 @@ module _ (w : List ℕ) (a : ℕ) where
 pub zero_number : quad_number (record { w0 = 0; w1 = 0; w2 = 0; w3 = 0 }) ≡ 0
 unfolding quad_number number
 zero_number = refl
+
+-- for the tactic
+pub ruleset searched = (elem_here, elem_past, elem_end)

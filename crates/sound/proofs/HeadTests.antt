@@ -1,20 +1,14 @@
 -- The words of a header are those that the header read from them is written as, exactly if its tests pass.
 use Prim.Native.Nat.{ℕ, zero, suc, ◌+◌, ◌≤◌}
 use mathlib.Core.Path.{◌≡◌, refl, sym, ap, ◌∙◌}
-use mathlib.Core.Bool.{Bool}
 use mathlib.Core.List.{List, [], ◌∷◌}
 use native.Mathlib.Omega.{arith}
-use lib.Dec.{eqb, leb}
 use lib.ListN.{length, take, drop, get_or, replicate}
 use lib.Seq.{slice, drop-cons, drop-drop, get_or-drop}
-use borrow.Author.Tests.{eqb-true, eqb-false, ne_eqb, lt-leb}
-use mathlib.Core.Logic.{inl, inr}
-use Rattle.words.specs.Words.{Decides}
 use Rattle.words.proofs.Moves.{mid as drop-take}
 use Rattle.regions.specs.declared.Quad.{Quad}
 use Rattle.regions.specs.Rows.{read_quad, quad_number}
 use Rattle.machine.specs.Limits.{word}
-use Rattle.machine.proofs.Tests.{test}
 use Rattle.store.specs.FlatSound.{QuadFits}
 use Rattle.store.specs.Image.{format, head_size, head_words}
 use Rattle.ident.specs.Number.{Key}
@@ -26,28 +20,6 @@ use Rattle.sound.specs.Whole.{PollPlain, CursorPlain}
 use Rattle.sound_rows.proofs.Decide.{Iff}
 use Rattle.sound_rows.proofs.Ranges.{Below, below_drop, quad_ranges}
 use Rattle.sound.proofs.Hashes.{same-quad, zero_number}
-
--- ---- tests of the code
-
-pub poll-zero : (m n : ℕ) → m ≡ 0 → Decides (eqb n 0) (PollPlain m n)
-poll-zero m n e = rw e (elim (test (eqb n 0)) [
-  | inl t ↦ rw t (eqb-true n 0 t)
-  | inr t ↦ rw t (eqb-false n 0 t)
-])
-
-pub poll_one : (m n : ℕ) → (m ≡ 0 → ⊥) → Decides (eqb m 1) (PollPlain m n)
-poll_one zero n e = absurd (e refl)
-poll_one (suc zero) n e = tt
-poll_one (suc (suc m)) n e = rw (ne_eqb (suc (suc m)) 1 (λ z. omega arith)) (λ z. z)
-
-pub cursor-zero : (m h : ℕ) (b : Bool) → m ≡ 0 → Decides b (h ≡ 0) → Decides b (CursorPlain m h)
-cursor-zero m h b e d = rw e d
-
-pub cursor_some : (m h : ℕ) → (m ≡ 0 → ⊥) → Decides (leb m 2) (CursorPlain m h)
-cursor_some zero h e = absurd (e refl)
-cursor_some (suc zero) h e = tt
-cursor_some (suc (suc zero)) h e = tt
-cursor_some (suc (suc (suc m))) h e = rw (lt-leb (suc (suc (suc m))) 2 (omega arith)) (λ z. z)
 
 -- ---- the words of a poll time and of a cursor
 

@@ -64,3 +64,6 @@ module _ (w : List ℕ) (a n : ℕ) where
 
     pub repeat_met : elem (quad_number q) (hashes_in w a k n) ≡ true → NoRepeat (hashes_in w a 0 n) → ⊥
     repeat_met z d = never (sym (rw turn at (repeat_from (k - 1) (omega arith) d)).0 ∙ z)
+
+-- for the tactic
+pub ruleset marking = (unmarked, none_met, marked_turn, repeat_none, repeat_back, repeat_met)

@@ -1,12 +1,15 @@
 -- What is tested of one place decides that it is sound.
-use Prim.Native.Nat.{ℕ, zero, suc, ◌≤◌, ◌<◌}
+use Prim.Native.Nat.{ℕ, zero, suc, ◌*◌, ◌≤◌, ◌<◌}
 use mathlib.Core.Path.{◌≡◌, refl, ap}
 use mathlib.Core.Bool.{Bool}
 use mathlib.Core.List.{List, [], ◌∷◌}
 use native.Mathlib.Omega.{arith}
+use mir.Syntax.{w8}
+use mir.Val.{Fits}
 use lib.ListN.{length, take, drop, get_or}
 use Rattle.ident.specs.Number.{top}
-use Rattle.words.specs.Words.{recs, Decides}
+use Rattle.words.specs.Words.{words, recs, Decides}
+use Rattle.words.proofs.Words.{length-words}
 use Rattle.words.proofs.Records.{length-recs}
 use Rattle.regions.specs.declared.Row.{Row}
 use Rattle.regions.specs.declared.Quad.{Quad}
@@ -19,7 +22,7 @@ use Rattle.store.specs.Read.{read_hash, read_place}
 use Rattle.store.proofs.Quads.{number-top}
 use Rattle.sound.specs.Places.{PlaceSound, hashes_in, Padded, StagePlain}
 use Rattle.sound_rows.proofs.Decide.{Iff, decides_iff, rest_all}
-use Rattle.sound_rows.proofs.Ranges.{Below, below_take, below_drop, quad_ranges}
+use Rattle.sound_rows.proofs.Ranges.{Below, below_bytes, below_words, below_take, below_drop, quad_ranges}
 use Rattle.sound.proofs.Exact.{place_iff}
 use Rattle.sound.proofs.Stage.{stage_few}
 
@@ -120,30 +123,38 @@ pub hash_is : {q : Quad} (u : List ℕ) → q ≡ read_quad u → quad_number q 
 unfolding read_hash
 hash_is u e = ap quad_number e
 
-module _ (rs : List Row) (v : List ℕ) (l : length v ≡ place_size) (b : Below word v) where
-  pub refuse_stage : {s m : ℕ} {c : Quad} → s ≡ get_or v 8 0 → c ≡ read_quad (drop 4 v) → m ≡ get_or v 9 0 → (StagePlain s (quad_number c) m → ⊥) → PlaceSound rs v → ⊥
-  refuse_stage {s} {m} {c} e f g n z =
-      let t : StagePlain (get_or v 8 0) (read_hash (drop 4 v)) (get_or v 9 0) = ((tests_iff rs v l b).from z).stage in
-      n (rw (e, hash_is (drop 4 v) f, g) t)
+-- (of a place's bytes)
+module _ (rs : List Row) (s : List ℕ) (long : length s ≡ 8 * place_size) (t : (i : ℕ) → Fits w8 (get_or s i 0)) where
+  abbrev v : List ℕ
+  v = words s
+
+  tests : Iff (PlaceTests rs v) (PlaceSound rs v)
+  tests = tests_iff rs v (omega (arith, long, length-words s)) (below_words s (below_bytes s t))
+
+  pub refuse_stage : {k m : ℕ} {c : Quad} → k ≡ get_or v 8 0 → c ≡ read_quad (drop 4 v) → m ≡ get_or v 9 0 → (StagePlain k (quad_number c) m → ⊥) → PlaceSound rs v → ⊥
+  refuse_stage e f g n z = n (rw (e, hash_is (drop 4 v) f, g) (tests.from z).stage)
 
   pub refuse_parents : {n : ℕ} → n ≡ get_or v 10 0 → max_parents < n → PlaceSound rs v → ⊥
-  refuse_parents e h z = omega (arith, ((tests_iff rs v l b).from z).parents)
+  refuse_parents e h z = omega (arith, (tests.from z).parents)
 
   pub refuse_padded : {m n : ℕ} → m ≡ get_or v 9 0 → n ≡ get_or v 10 0 → (Padded v m n → ⊥) → PlaceSound rs v → ⊥
-  refuse_padded e f n z = n (rw (e, f) ((tests_iff rs v l b).from z).padded)
+  refuse_padded e f n z = n (rw (e, f) (tests.from z).padded)
 
   pub refuse_repeat : {n : ℕ} → n ≡ get_or v 10 0 → (NoRepeat (hashes_in v 411 0 n) → ⊥) → PlaceSound rs v → ⊥
-  refuse_repeat e n z = n (rw e ((tests_iff rs v l b).from z).distinct)
+  refuse_repeat e n z = n (rw e (tests.from z).distinct)
 
-  pub decide-owned : {s m n : ℕ} {c h : Quad} (d : Bool) → s ≡ get_or v 8 0 → c ≡ read_quad (drop 4 v) → m ≡ get_or v 9 0 → n ≡ get_or v 10 0 → h ≡ read_quad (drop 0 v)
-      → StagePlain s (quad_number c) m → n ≤ max_parents → Padded v m n → NoRepeat (hashes_in v 411 0 n)
+  pub decide-owned : {k m n : ℕ} {c h : Quad} (d : Bool) → k ≡ get_or v 8 0 → c ≡ read_quad (drop 4 v) → m ≡ get_or v 9 0 → n ≡ get_or v 10 0 → h ≡ read_quad (drop 0 v)
+      → StagePlain k (quad_number c) m → n ≤ max_parents → Padded v m n → NoRepeat (hashes_in v 411 0 n)
       → Decides d (1 ≤ count_rows (owns_key (quad_number h)) rs) → Decides d (PlaceSound rs v)
-  decide-owned {s} {m} {n} {c} {h} d e f g k i st p z r o =
+  decide-owned {k} {m} {n} {c} {h} d e f g i q st p z r o =
       let st' : StagePlain (get_or v 8 0) (read_hash (drop 4 v)) (get_or v 9 0) = rw (e, hash_is (drop 4 v) f, g) at st in
-      let z' : Padded v (get_or v 9 0) (get_or v 10 0) = rw (g, k) at z in
-      let r' : NoRepeat (hashes_in v 411 0 (get_or v 10 0)) = rw k at r in
-      let o' : Decides d (1 ≤ count_rows (owns_key (read_hash v)) rs) = rw (hash_is v i) at o in
+      let z' : Padded v (get_or v 9 0) (get_or v 10 0) = rw (g, i) at z in
+      let r' : NoRepeat (hashes_in v 411 0 (get_or v 10 0)) = rw i at r in
+      let o' : Decides d (1 ≤ count_rows (owns_key (read_hash v)) rs) = rw (hash_is v q) at o in
       decides_iff d (record {
-        to = λ w. (tests_iff rs v l b).to (record { stage = st'; parents = omega arith; padded = z'; distinct = r'; owned = w });
-        from = λ w. ((tests_iff rs v l b).from w).owned;
+        to = λ w. tests.to (record { stage = st'; parents = omega arith; padded = z'; distinct = r'; owned = w });
+        from = λ w. (tests.from w).owned;
       }) o'
+
+-- for the tactic
+pub ruleset refusals = (refuse_stage, refuse_parents, refuse_padded)

@@ -10,6 +10,7 @@ use lib.ListN.{length, take, drop, get_or, length-drop}
 use lib.Seq.{take-add, take_at, drop_at, get_or-take, length-take-le}
 use borrow.Author.Tests.{ltb-true, ltb-false}
 use Rattle.words.specs.Words.{recs, words, Decides}
+use Rattle.words.proofs.Words.{length-words}
 use Rattle.words.proofs.Parts.{words-lent}
 use Rattle.words.proofs.Records.{length-recs, recs_at}
 use Rattle.regions.specs.declared.Row.{Row}
@@ -103,18 +104,22 @@ module _ (n : ℕ) (w : List ℕ) where
       d : Place
       d = blank 0 0
 
-module _ (rs : List Row) (n : ℕ) (w : List ℕ) (h : place_size * n ≤ length w) where
-  pub places_made : ((i : ℕ) → i < n → PlaceSound rs (place_at w i)) → ((i : ℕ) → i < n → PlaceFollows w i) → PlacesSound rs n w
+-- (of the bytes s of the places)
+module _ (rs : List Row) (n : ℕ) (s : List ℕ) (h : 8 * (place_size * n) ≤ length s) where
+  exact : Iff (Each Exact (recs place_size (λ u. u) n (words s))) (take (place_size * n) (words s) ≡ each place_words (recs place_size read_place n (words s)))
+  exact = exact_all n (words s) (omega (arith, h, length-words s))
+
+  pub places_made : ((i : ℕ) → i < n → PlaceSound rs (place_at (words s) i)) → ((i : ℕ) → i < n → PlaceFollows (words s) i) → PlacesSound rs n (words s)
   places_made f g = record {
-    words_are = (exact_all n w h).to (each_of Exact place_size (λ u. u) n w (λ i l. (f i l).words_are));
-    fit = each_of (PlaceFits rs) place_size read_place n w (λ i l. (f i l).fit);
-    ascend = (follow_iff n w).to g;
+    words_are = exact.to (each_of Exact place_size (λ u. u) n (words s) (λ i l. (f i l).words_are));
+    fit = each_of (PlaceFits rs) place_size read_place n (words s) (λ i l. (f i l).fit);
+    ascend = (follow_iff n (words s)).to g;
   }
 
-  pub place_of : PlacesSound rs n w → (i : ℕ) → i < n → PlaceSound rs (place_at w i)
-  place_of s i l = record {
-    words_are = of_each Exact place_size (λ u. u) n w ((exact_all n w h).from s.words_are) i l;
-    fit = of_each (PlaceFits rs) place_size read_place n w s.fit i l;
+  pub place_of : PlacesSound rs n (words s) → (i : ℕ) → i < n → PlaceSound rs (place_at (words s) i)
+  place_of z i l = record {
+    words_are = of_each Exact place_size (λ u. u) n (words s) (exact.from z.words_are) i l;
+    fit = of_each (PlaceFits rs) place_size read_place n (words s) z.fit i l;
   }
 
 -- ---- turns of the loop
@@ -141,3 +146,6 @@ place-lent s i h =
     let e : i * 824 + 824 - i * 824 ≡ place_size = omega arith in
     let g : i * 824 ≡ place_size * i = omega arith in
     words-lent s (i * 824) (i * 824 + 824) (omega arith) (omega arith) ∙ rw (e, g)
+
+-- for the tactic
+pub ruleset follows = (follows-decides)

@@ -30,27 +30,17 @@ stage_cases (suc (suc zero)) h n p = inr (record { some = omega arith; most = om
 stage_cases (suc (suc (suc zero))) h n p = inr (record { some = omega arith; most = omega arith; some_wtxid = p.0; few_wtxids = p.1 })
 stage_cases (suc (suc (suc (suc s)))) h n p = absurd p
 
-pub stage-packed : (s h n : ℕ) → Packed s n → StagePlain s h n
-stage-packed zero h n p = absurd (omega arith)
-stage-packed (suc zero) h n p = absurd (omega arith)
-stage-packed (suc (suc zero)) h n p = (p.some_wtxid, p.few_wtxids)
-stage-packed (suc (suc (suc zero))) h n p = (p.some_wtxid, p.few_wtxids)
-stage-packed (suc (suc (suc (suc s)))) h n p = absurd (omega arith)
-
 pub stage_few : (s h n : ℕ) → StagePlain s h n → n ≤ max_wtxids
 stage_few s h n p = elim (stage_cases s h n p) [ inl f ↦ omega (arith, f.wtxids) | inr f ↦ f.few_wtxids ]
 
 pub flag-decides : (s h n : ℕ) (b : Bool) → s ≡ 1 → n ≡ 0 → Decides b (h ≡ 0) → Decides b (StagePlain s h n)
 flag-decides s h n b e z d = rw e (decides_iff b (record { to = λ h. (h, z); from = λ p. p.0 }) d)
 
-pub packed-decides : (s h n : ℕ) → 2 ≤ s → s ≤ 3 → 1 ≤ n → Decides (leb n max_wtxids) (StagePlain s h n)
-packed-decides s h n a b c = elim (test (leb n max_wtxids)) [
-  | inl e ↦ rw e (stage-packed s h n (record { some = a; most = b; some_wtxid = c; few_wtxids = leb-true n max_wtxids e }))
-  | inr e ↦ rw e (λ p. omega (arith, stage_few s h n p, leb-false n max_wtxids e))
-]
-
 pub some_decides : (m n : ℕ) → m ≡ n → Decides (leb 1 m) (1 ≤ n)
 some_decides m n e = elim (test (leb 1 m)) [
   | inl t ↦ rw t (omega (arith, leb-true 1 m t))
   | inr t ↦ rw t (λ p. omega (arith, leb-false 1 m t))
 ]
+
+-- for the tactic
+pub ruleset staged = (flag-decides)

@@ -3,6 +3,8 @@ use Prim.Native.Nat.{ℕ, zero, suc, ◌+◌, ◌-◌, ◌*◌, ◌≤◌, ◌<�
 use mathlib.Core.Path.{◌≡◌, refl, sym, ap, ◌∙◌}
 use mathlib.Core.List.{List, ◌++◌, append_assoc}
 use native.Mathlib.Omega.{arith}
+use mir.Syntax.{w8}
+use mir.Val.{Fits}
 use lib.ListN.{length, take, drop, get_or, length-drop}
 use lib.Seq.{take-add, take_at, drop_at, drop-drop, length-take-le}
 use Rattle.ident.specs.Number.{top}
@@ -31,7 +33,7 @@ use Rattle.store.proofs.FlatRead.{length-image, flat_read}
 use Rattle.store.proofs.Stored.{words_front}
 use Rattle.sound.specs.Whole.{SizesPlain, HeadPlain, RecordsSound}
 use Rattle.sound_rows.proofs.Decide.{Iff}
-use Rattle.sound_rows.proofs.Ranges.{Below, below_take, below_drop, quad_ranges}
+use Rattle.sound_rows.proofs.Ranges.{Below, below_bytes, below_words, below_take, below_drop, quad_ranges}
 use Rattle.sound.proofs.HeadTests.{head_iff}
 use Rattle.sound.proofs.Areas.{area_iff, rows_exact, conns_exact, recs-lent}
 
@@ -347,17 +349,20 @@ module _ (b : List ℕ) (g : Begins b) where
 
 -- ---- the tests, in the code's order
 
-module _ (b : List ℕ) (p : Below word (words b)) where
-  pub refuse_short : length b < 192 → SoundStore b → ⊥
-  refuse_short h s = omega (arith, long_of b (begins b s))
+pub refuse_short : (b : List ℕ) → length b < 192 → SoundStore b → ⊥
+refuse_short b h s = omega (arith, long_of b (begins b s))
+
+pub refuse_long : (b : List ℕ) (L Q : ℕ) → L ≡ get_or (words b) 1 0 → Q ≡ get_or (words b) 2 0 → length b < (24 + L * 9 + L * 3 + Q * 824) * 8 → SoundStore b → ⊥
+refuse_long b L Q e_l e_q h s = omega (arith, rw (← e_l, ← e_q) at (long_of b (begins b s)))
+
+module _ (b : List ℕ) (t : (i : ℕ) → Fits w8 (get_or b i 0)) where
+  p : Below word (words b)
+  p = below_words b (below_bytes b t)
 
   pub refuse_head : (HeadPlain (words b) → ⊥) → SoundStore b → ⊥
   refuse_head n s = n (head_plain b (begins b s) p)
 
   module _ (L Q : ℕ) (e_l : L ≡ get_or (words b) 1 0) (e_q : Q ≡ get_or (words b) 2 0) where
-    pub refuse_long : length b < (24 + L * 9 + L * 3 + Q * 824) * 8 → SoundStore b → ⊥
-    refuse_long h s = omega (arith, rw (← e_l, ← e_q) at (long_of b (begins b s)))
-
     module _ (n c q : ℕ) (en : n ≡ get_or (words b) 3 0) (ec : c ≡ get_or (words b) 4 0) (eq : q ≡ get_or (words b) 5 0) (h : HeadPlain (words b))
         (long : (24 + L * 9 + L * 3 + Q * 824) * 8 ≤ length b) where
       long-words : 24 + L * 9 + L * 3 + Q * 824 ≤ length (words b)
@@ -399,5 +404,7 @@ module _ (b : List ℕ) (p : Below word (words b)) where
           let i = flat_iff (words b) p L Q n c q e_l e_q en ec eq few_rows few_conn few_place long-words h in
           record { to = λ r. store_made (i.to r); from = λ s. i.from (store-flat s) }
 
-pub length-lent : (s : List ℕ) (a e : ℕ) → a ≤ e → e ≤ length s → length (take (e - a) (drop a s)) ≡ e - a
-length-lent s a e h l = length-take-le (e - a) (drop a s) (simp length-drop (omega arith))
+-- for the tactic
+pub ruleset refusals = (refuse_short, refuse_head, refuse_long)
+
+pub ruleset long = (length-words)

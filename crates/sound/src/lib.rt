@@ -41,6 +41,7 @@ fn poll_fits(tag: u64, time: u64) -> bool
     tag == 1
 }
 
+#[tactic(auto, using(crate::proofs::Hashes::zero_number))]
 fn cursor_fits(tag: u64, hash: regions::Quad) -> bool
     ensures { Decides result (CursorPlain tag (quad_number hash)) }
 {
@@ -67,6 +68,7 @@ fn sizes_fit(s: &[u8]) -> bool
         && head::held_places(s) <= q
 }
 
+#[tactic(auto, using(crate::proofs::PlaceTests::hash_is))]
 fn head_fits(s: &[u8]) -> bool
     requires { 8 * head_size ≤ length s.now }
     ensures { Decides result (HeadPlain (words s.now)) }
@@ -90,6 +92,7 @@ fn head_fits(s: &[u8]) -> bool
 
 // Whether the rows, the connections and the p places at the fronts of their regions are sound, with zeros behind them. (Places
 // stay bytes and a number: one is 824 words, which no value holds.)
+#[tactic(auto, using(crate::proofs::StoreTests::long))]
 fn records_fit(rows: Records<Row>, conns: Records<Conn>, places: &[u8], p: usize) -> bool
     requires { (8 * (place_size * p) ≤ length places.now) × (rows.count ≤ max_announcements) }
     ensures { Decides result (RecordsSound (words rows.entry.bytes.now) rows.entry.count (words conns.entry.bytes.now) conns.entry.count (words places.now) p) }
@@ -116,6 +119,7 @@ fn records_fit(rows: Records<Row>, conns: Records<Conn>, places: &[u8], p: usize
 }
 
 // Whether the bytes, as far as their need, write a sound state.
+#[tactic(auto, using(crate::proofs::StoreTests::refusals))]
 pub fn sound(s: &[u8]) -> bool
     ensures { Decides result (SoundStore s.now) }
 {

@@ -33,6 +33,7 @@ pub fn same_hash(a: regions::Quad, b: regions::Quad) -> bool
 
 // Whether h is among the hashes from .. to of the list that starts at the word a. (A loop: tried with `any` and a closure with a contract. The
 // check left open what its yes and what its no say of the hashes by their index.)
+#[tactic(auto, using(crate::proofs::Hashes::searched))]
 fn has_hash(s: &[u8], a: usize, from: usize, to: usize, h: regions::Quad) -> bool
     requires { (from ≤ to) × (8 * (a + 4 * to) ≤ length s.now) }
     ensures { result ≡ elem (quad_number h) (hashes_in (words s.now) a from to) }
@@ -46,6 +47,7 @@ fn has_hash(s: &[u8], a: usize, from: usize, to: usize, h: regions::Quad) -> boo
 }
 
 // A hash's words in one.
+#[tactic(auto, unfolding(crate::specs::Places::fold_of))]
 fn fold(h: regions::Quad) -> u64
     ensures { result ≡ fold_of h }
 {
@@ -64,6 +66,7 @@ fn slot(h: regions::Quad) -> usize
 // Whether the n hashes of the list that starts at the word a are distinct. The last comes first; a hash is compared with others only
 // if its slot has the mark already. Slots may have any content before: the mark should be new to them, else all are compared. (A loop: each
 // turn changes the slots that the next one reads.)
+#[tactic(auto, using(crate::proofs::Marks::marking))]
 fn distinct(s: &[u8], a: usize, n: usize, slots: &mut [u16; SLOTS], mark: u16) -> bool
     requires { 8 * (a + 4 * n) ≤ length s.now }
     ensures { Decides result (NoRepeat (hashes_in (words s.now) a 0 n)) }
@@ -80,6 +83,7 @@ fn distinct(s: &[u8], a: usize, n: usize, slots: &mut [u16; SLOTS], mark: u16) -
 }
 
 // Whether stage, combined hash and number of wtxids go together. (The stage as a number: the bytes may hold any.)
+#[tactic(auto, using(crate::proofs::Stage::staged, crate::proofs::Hashes::zero_number))]
 fn stage_fits(stage: u64, combined: regions::Quad, n: u64) -> bool
     ensures { Decides result (StagePlain stage (quad_number combined) n) }
 {
@@ -117,6 +121,7 @@ fn padded(p: &[u8], m: usize, n: usize) -> bool
 
 // Whether the words of one place write it out, and it is fit. The rows of its key are guessed to begin at the i-th.
 // (A slice of just a place's bytes: to make an array of a part of the region is a test of its length, with a case that never is.)
+#[tactic(auto, using(crate::proofs::PlaceTests::refusals))]
 fn place_fits(p: &[u8], rows: Records<Row>, slots: &mut [u16; SLOTS], mark: u16, i: usize) -> bool
     requires { length p.now ≡ 8 * place_size }
     ensures { RowsSound (recs row_size read_row rows.entry.count (words rows.entry.bytes.now))
@@ -143,6 +148,7 @@ fn place_fits(p: &[u8], rows: Records<Row>, slots: &mut [u16; SLOTS], mark: u16,
 
 // Whether the hash of the i-th place is above that of the place before it. (No order of a type: a place stays bytes, and the order of the
 // hashes is the derived one.)
+#[tactic(auto, using(crate::proofs::PlaceWalk::follows))]
 fn place_follows(s: &[u8], i: usize) -> bool
     requires { 8 * (place_size * (i + 1)) ≤ length s.now }
     ensures { Decides result (PlaceFollows (words s.now) i) }
