@@ -172,3 +172,6 @@ module _ {w₀ w : List ℕ} {n m j : ℕ} (p : Collecting w₀ w n m j) where
         let k : take m (z.table ++ z.rest) ≡ counted [] cs = take_at z.table z.rest m z.many ∙ a in
         (subst (λ (x : List Conn). Entries L x w₁) k held, sym (ap length a) ∙ z.many);
   }
+
+-- for the tactic
+pub ruleset counting = (partly_found, partly_new)

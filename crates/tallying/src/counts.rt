@@ -17,6 +17,7 @@ fn is_entry(table: Records<Conn>, p: usize, x: u64) -> bool
 }
 
 // Counts the j-th entry into the table, which has m entries. Answers how many it has then.
+#[tactic(auto, using(crate::proofs::Tables::counting))]
 fn count(r: &mut [u8], m: usize, j: usize) -> usize
     requires { (m ≤ j) × (8 * (conn_size * (j + 1)) ≤ length r.old) × Underway (words r.old) m j }
     ensures { (result ≤ j + 1) × Counts (words r.old) (words r.new) m j result }

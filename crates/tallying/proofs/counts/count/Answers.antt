@@ -1,6 +1,6 @@
 -- `tallying::counts::count` meets its contract.
 use native.Mathlib.Omega.{arith}
-use Rattle.tallying.proofs.Tables.{entry_few, partly_found, partly_new}
+use Rattle.tallying.proofs.Tables.{entry_few}
 use Rattle.tallying.proofs.counts.count.Goals as goal
 
 pub overflow_add-d : goal.overflow_add-d
@@ -12,18 +12,3 @@ pub overflow_add-d-then-is_entry : goal.overflow_add-d-then-is_entry
 overflow_add-d-then-is_entry c =
     let e = rw (c.new.ensures.0, c.new.ensures.1) at c.is_entry.ensures in
     omega (arith, c.requires.1, entry_few c.requires.2.partly c.requires.2.more c.read-c.ensures (e.inside c.if-is_entry.true) c.read-e.ensures)
-
-pub returns-then-is_entry : goal.returns-then-is_entry
-returns-then-is_entry c =
-    let e = rw (c.new.ensures.0, c.new.ensures.1) at c.is_entry.ensures in (
-      omega (arith, c.requires.0),
-      λ L cs l fits p. partly_found p l c.read-c.ensures (e.inside c.if-is_entry.true) c.read-e.ensures fits c.seek_conn-p.ensures e c.if-is_entry.true
-          c.write.ensures,
-    )
-
-pub returns : goal.returns
-returns c =
-    let e = rw (c.new.ensures.0, c.new.ensures.1) at c.is_entry.ensures in (
-      omega (arith, c.requires.0),
-      λ L cs l fits p. partly_new p l c.read-c.ensures fits c.seek_conn-p.ensures e c.if-is_entry.false c.insert.ensures,
-    )
