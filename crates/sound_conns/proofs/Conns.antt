@@ -188,3 +188,6 @@ module _ (rs : List Row) (c : ℕ) (v : List ℕ) where
 
   pub walked_end : {done lo : ℕ} → Walked done lo → c ≤ lo → Each RowFits rs → Entries (recs conn_size read_conn c v) → ConnsSound rs (recs conn_size read_conn c v)
   walked_end w h f e = windows_sound e (λ j l. w.counted j (omega arith) l) (done_end f (rw (w.ended h) at (w.named f)))
+
+-- for the tactic
+pub ruleset walking = (conns-entries, walked_start, walked_holds, walked_end)

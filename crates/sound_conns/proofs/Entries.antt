@@ -144,3 +144,8 @@ place-absent ks n x i e s none = record { found = λ h. absurd (omega arith); ab
       | inr (inl b) ↦ none (omega arith, rw b at q)
       | inr (inr b) ↦ omega (arith, (s.bound (rising-sorted ks r)).above i (le_refl i) (omega arith), r i j b h)
     ]
+
+-- for the tactic
+pub ruleset last = (last_whole, last_at)
+
+pub ruleset rising = (entries-rising, entries-positive, length-names)

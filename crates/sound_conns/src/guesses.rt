@@ -42,6 +42,7 @@ pub struct Guesses<'a> {
 }
 
 // Whether the i-th entry is x's. (tallying has the same test of a table that is being filled, with a clause of that.)
+#[tactic(auto, using(crate::proofs::Entries::is_name))]
 fn is_entry(conns: Records<Conn>, i: usize, x: u64) -> bool
     ensures { Decides result ((i < conns.entry.count) × (get_or (names conns.entry.count (words conns.entry.bytes.now)) i 0 ≡ x)) }
 {

@@ -88,6 +88,7 @@ pub struct Pass<'a> {
 }
 
 // The counter of an entry before a row is taken off it.
+#[tactic(auto, using(crate::proofs::Tally::charged))]
 fn charge(c: Conn) -> u32
     requires { ConnFits c }
     ensures { Left [] c result }
@@ -208,6 +209,7 @@ fn fits_with<const N: usize, const SLOTS: usize>(rows: Records<Row>, pass: Pass,
 }
 
 // The last connection of the many entries from lo on, or the greatest number if no entry is behind them.
+#[tactic(auto, using(crate::proofs::Entries::last))]
 fn last_of(conns: Records<Conn>, lo: usize) -> u64
     requires { (lo < conns.count) × Rising (names conns.count (words conns.bytes.now)) × Low (names conns.count (words conns.bytes.now)) }
     ensures { LastOf (names conns.entry.count (words conns.entry.bytes.now)) lo many result }
@@ -219,6 +221,7 @@ fn last_of(conns: Records<Conn>, lo: usize) -> u64
 }
 
 // Whether the entries are the tally of the rows, within the limits of a connection.
+#[tactic(auto, using(crate::proofs::Conns::walking, crate::proofs::Entries::rising))]
 pub fn conns_fit(rows: Records<Row>, conns: Records<Conn>) -> bool
     requires { rows.count ≤ max_announcements }
     ensures { RowsSound (recs row_size read_row rows.entry.count (words rows.entry.bytes.now))

@@ -255,3 +255,6 @@ module _ {X G R S : Type 0} (v : Iff X G) (g : Iff G (R × S)) where
 
   pub off_stop : (R → ⊥) → X → ⊥
   off_stop n x = n (g.to (v.to x)).0
+
+-- for the tactic
+pub ruleset parted = (apart_turn, apart_end, first_none)

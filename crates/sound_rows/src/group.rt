@@ -58,6 +58,7 @@ pub fn run_end(part: Part, h: Quad) -> usize
 
 // Whether no connection of `mine` is in a later one of them, or in one of `others`. (A loop with two ways to a no: in `all` they would be
 // one test, and a closure with a contract of its own.)
+#[tactic(auto, using(crate::proofs::Groups::parted))]
 fn apart(mine: Part, others: Part) -> bool
     ensures { Decides result (Apart (rows_of others.entry) (rows_of mine.entry)) }
 {
