@@ -4,11 +4,12 @@ use mathlib.Core.Path.{◌≡◌, refl}
 use mathlib.Core.List.{List}
 use Rattle.std.specs.Prelude.{Result, Ok, Err}
 use Rattle.outcome.specs.declared.refusal.Refusal.{Refusal}
-use Rattle.outcome.specs.Refusals.{number_of, refusal_in}
+use Rattle.outcome.specs.Refusals.{number_of}
 use Rattle.outcome.proofs.Turns.{never_none}
 use Rattle.public_requests.specs.declared.Counts.{Counts}
 use Rattle.public_requests.specs.Counting.{Refused, counts_of, CountsOf}
 use Rattle.crossing.specs.Counts.{announced_out, owned_out, counts_said, HandsCounts}
+use Rattle.crossing.specs.Status.{StatusIs}
 use Rattle.crossing.proofs.Statuses.{stays}
 
 -- a refusal's number is not 0
@@ -20,6 +21,6 @@ refused-said : (e : Refusal) (a o : ℕ) → counts_said (number_of e) a o ≡ R
 refused-said e a o = some_said (number_of e) a o (never_none e)
 
 pub hands-counts : (n : ℕ) (c : Result Counts Refusal) (was was' : ℕ) {b : List ℕ} {r a o : ℕ} → CountsOf b n (counts_of c)
-    → (r ≡ refusal_in c) × (a ≡ announced_out c was) × (o ≡ owned_out c was') → HandsCounts b n r was a was' o
-hands-counts n (Err x) was was' d e = rw (e.0, e.1, e.2) (rw (refused-said x was was') d, stays (number_of x) was, stays (number_of x) was')
-hands-counts n (Ok c) was was' d e = rw (e.0, e.1, e.2) (d, tt, tt)
+    → StatusIs c r × (a ≡ announced_out c was) × (o ≡ owned_out c was') → HandsCounts b n r was a was' o
+hands-counts n (Err x) was was' d e = rw (e.0.told, e.1, e.2) (rw (refused-said x was was') d, stays (number_of x) was, stays (number_of x) was')
+hands-counts n (Ok c) was was' d e = rw (e.0.told, e.1, e.2) (d, tt, tt)

@@ -28,10 +28,10 @@ use Rattle.public_plans.specs.declared.Selection.{Selection}
 use Rattle.outcome.specs.declared.refusal.Refusal.{Refusal}
 use Rattle.outcome.specs.declared.Figures.{Figures}
 use Rattle.outcome.specs.declared.Departure.{Departure}
-use Rattle.outcome.specs.Refusals.{number_of, refusal_in}
+use Rattle.outcome.specs.Refusals.{number_of}
 use Rattle.outcome.proofs.Turns.{never_none}
 use Rattle.crossing.proofs.Replies.{RepliesOne}
-use Rattle.crossing.specs.Status.{NumberHanded, held_out, free_out, preferred_out, permille_out, own_out, parents_out, considered_out, chosen_out, next_out}
+use Rattle.crossing.specs.Status.{StatusIs, NumberHanded, held_out, free_out, preferred_out, permille_out, own_out, parents_out, considered_out, chosen_out, next_out}
 use Rattle.crossing.specs.Status.{told, numbered, figured, Stays, HandsOut, HandsKeys, HandsEntries, HandsDeparture, HandsPlan, HandsOwners, HandsText}
 
 -- ---- a refusal's number is not 0
@@ -71,9 +71,9 @@ status_in (Summed s) = 0
 status_in (Owned n l) = 0
 status_in (Saved t) = 0
 
-status-in : (a : Result ℕ Refusal) → refusal_in a ≡ status_in (reply_of a)
-status-in (Err x) = refl
-status-in (Ok n) = refl
+status-in : (a : Result ℕ Refusal) {r : ℕ} → StatusIs a r → r ≡ status_in (reply_of a)
+status-in (Err x) e = e.told
+status-in (Ok n) e = e.told
 
 -- a refusal's number is not 0
 settled : (k n : ℕ) → numbered (status_in (if eqb k 0 then Number n else Refused k)) n ≡ (if eqb k 0 then Number n else Refused k)
@@ -84,21 +84,21 @@ one_settled : (c : Call) → RepliesOne c → (b : List ℕ) (sound : Bool) → 
 unfolding outcome_if step_if
 one_settled c h b sound = rw (h (state_of (words b))) (settled (refusal (length b) sound c (state_of (words b))) 1)
 
-pub one_told : {c₀ c : Call} → RepliesOne c → (a : Result ℕ Refusal) {r : ℕ} {b z : List ℕ} → Leaves c₀ b z (reply_of a) → r ≡ refusal_in a → c₀ ≡ c → Leaves c b z (numbered r 1)
+pub one_told : {c₀ c : Call} → RepliesOne c → (a : Result ℕ Refusal) {r : ℕ} {b z : List ℕ} → Leaves c₀ b z (reply_of a) → StatusIs a r → c₀ ≡ c → Leaves c b z (numbered r 1)
 one_told {c₀} {c} h a {r} {b} {z} d₀ e q =
     let d : Leaves c b z (reply_of a) = subst (λ (x : Call). Leaves x b z (reply_of a)) q d₀ in
     let told : numbered (status_in (reply_of a)) 1 ≡ reply_of a = subst (λ x. numbered (status_in x) 1 ≡ x) (sym (ap (λ x. x.reply) d.effect)) (one_settled c h b d.sound) in
-    record { sound = d.sound; tested = d.tested; effect = ap (λ x. record { reply = x; buffer = []; store = z }) (ap (λ x. numbered x 1) (e ∙ status-in a) ∙ told) ∙ d.effect }
+    record { sound = d.sound; tested = d.tested; effect = ap (λ x. record { reply = x; buffer = []; store = z }) (ap (λ x. numbered x 1) (status-in a e) ∙ told) ∙ d.effect }
 
 -- ---- sum
 
 pub hands-figures : {b : List ℕ} (a : Result Figures Refusal) (h₀ f₀ p₀ m₀ : ℕ) {r h f p m : ℕ} → Leaves (On Sum) b b (figures_of a)
-    → (r ≡ refusal_in a) × (h ≡ held_out a h₀) × (f ≡ free_out a f₀) × (p ≡ preferred_out a p₀) × (m ≡ permille_out a m₀)
+    → StatusIs a r × (h ≡ held_out a h₀) × (f ≡ free_out a f₀) × (p ≡ preferred_out a p₀) × (m ≡ permille_out a m₀)
     → Leaves (On Sum) b b (figured r h f p m) × Stays r h₀ h × Stays r f₀ f × Stays r p₀ p × Stays r m₀ m
 hands-figures (Err x) h₀ f₀ p₀ m₀ d e =
     let s = stays (number_of x) in
-    rw (e.0, e.1, e.2, e.3, e.4) (rw (refused-told x _) d, s h₀, s f₀, s p₀, s m₀)
-hands-figures (Ok y) h₀ f₀ p₀ m₀ d e = rw (e.0, e.1, e.2, e.3, e.4) (d, tt, tt, tt, tt)
+    rw (e.0.told, e.1, e.2, e.3, e.4) (rw (refused-told x _) d, s h₀, s f₀, s p₀, s m₀)
+hands-figures (Ok y) h₀ f₀ p₀ m₀ d e = rw (e.0.told, e.1, e.2, e.3, e.4) (d, tt, tt, tt, tt)
 
 -- ---- answers that list keys
 
@@ -135,9 +135,9 @@ hands-text (Ok k) was d e = rw (e.told.0, e.told.1) (d, tt)
 -- ---- of a connection that left
 
 pub hands-departure : {c : Call} (a : Result Departure Refusal) (was was' : ℕ) {b z : List ℕ} {u : Buffer} {r n m : ℕ} → LeavesWith c b z u (departure_of a)
-    → (r ≡ refusal_in a) × (n ≡ own_out a was) × (m ≡ parents_out a was') → HandsDeparture c b z u r was n was' m
-hands-departure (Err x) was was' l e = rw (e.0, e.1, e.2) (rw (refused-told x _) l, stays (number_of x) was, stays (number_of x) was')
-hands-departure (Ok d) was was' l e = rw (e.0, e.1, e.2) (l, tt, tt)
+    → StatusIs a r × (n ≡ own_out a was) × (m ≡ parents_out a was') → HandsDeparture c b z u r was n was' m
+hands-departure (Err x) was was' l e = rw (e.0.told, e.1, e.2) (rw (refused-told x _) l, stays (number_of x) was, stays (number_of x) was')
+hands-departure (Ok d) was was' l e = rw (e.0.told, e.1, e.2) (l, tt, tt)
 
 -- ---- of a plan
 
@@ -177,8 +177,8 @@ module _ (clock : ℕ) (asked : Option (List Key)) (u₀ : Buffer) where
       settled-next clock asked s p.next (refusal (length b) d.sound c s) (ap (λ x. next_in x.reply) d.effect)
 
   pub hands-plan : (a : Result Selection Refusal) (was was' was'' : ℕ) {b z : List ℕ} {u : Buffer} {r k n x : ℕ} → LeavesWith c b z u (planned_of a)
-      → (r ≡ refusal_in a) × (k ≡ considered_out a was) × (n ≡ chosen_out a was') × (x ≡ next_out a was'') → HandsPlan c b z u r was k was' n was'' x
+      → StatusIs a r × (k ≡ considered_out a was) × (n ≡ chosen_out a was') × (x ≡ next_out a was'') → HandsPlan c b z u r was k was' n was'' x
   hands-plan (Err y) was was' was'' l e =
       let s = stays (number_of y) in
-      rw (e.0, e.1, e.2, e.3) (rw (refused-told y _) l, s was, s was', s was'')
-  hands-plan (Ok p) was was' was'' l e = rw (e.0, e.1, e.2, e.3) (rw (told-next p l) l, tt, tt, tt)
+      rw (e.0.told, e.1, e.2, e.3) (rw (refused-told y _) l, s was, s was', s was'')
+  hands-plan (Ok p) was was' was'' l e = rw (e.0.told, e.1, e.2, e.3) (rw (told-next p l) l, tt, tt, tt)

@@ -1,15 +1,15 @@
 -- What the numbers of the exported `counts` say.
 use Rattle.std.specs.Prelude.{ℕ, zero, suc, List, Result}
-use Rattle.outcome.specs.declared.refusal.Refusal.{Refusal}
 use Rattle.public_requests.specs.declared.Counts.{Counts}
 use Rattle.public_requests.specs.Counting.{Counted, Refused, Are, CountsOf}
-use Rattle.crossing.specs.Status.{handed, Stays}
+use Rattle.crossing.specs.Status.{Stays}
+use Rattle.crossing.specs.Handed.{handed}
 
 -- the numbers that an answer hands out; refused, what stood there stays
-abbrev pub announced_out : Result Counts Refusal → ℕ → ℕ
+abbrev pub announced_out : {E : Type 0} → Result Counts E → ℕ → ℕ
 announced_out a was = handed (λ (c : Counts). c.announced) a was
 
-abbrev pub owned_out : Result Counts Refusal → ℕ → ℕ
+abbrev pub owned_out : {E : Type 0} → Result Counts E → ℕ → ℕ
 owned_out a was = handed (λ (c : Counts). c.owned) a was
 
 -- the answer of a status, and of what was handed out

@@ -1,5 +1,5 @@
 -- What the numbers of an exported call say, in document 01's numbers and values.
-use Rattle.std.specs.Prelude.{ℕ, zero, suc, ◌≡◌, List, Result, Ok, Err, unwrap_or}
+use Rattle.std.specs.Prelude.{ℕ, zero, suc, ◌≡◌, List, Result, unwrap_or}
 use Rattle.machine.specs.Call.{Buffer, Call}
 use Rattle.machine.specs.Step.{Reply, Refused, Number, Summed}
 use Rattle.outcome.specs.declared.refusal.Refusal.{Refusal}
@@ -11,47 +11,44 @@ use Rattle.public_plans.specs.Entries.{entries_listed, chosen_listed}
 use Rattle.public_plans.specs.Ownership.{owners_listed}
 use Rattle.public_plans.specs.declared.Selection.{Selection}
 use Rattle.outcome.specs.Refusals.{number_of}
-use Rattle.crossing.specs.Handed.{HandedOut}
+use Rattle.crossing.specs.Handed.{StatusOf, HandedOut, handed}
 
--- The status of an answer is its refusal's number, or 0: `refusal_in` (crates/outcome, specs/Refusals).
-
--- the number f of what an answer tells; refused, what stood there stays
-abbrev pub handed : {T : Type 0} → (T → ℕ) → Result T Refusal → ℕ → ℕ
-handed f (Err r) was = was
-handed f (Ok x) was = f x
+-- The status of a public call's answer is its refusal's number, or 0: `refusal_in` (crates/outcome, specs/Refusals) says so too.
+abbrev pub StatusIs : {T : Type 0} → Result T Refusal → ℕ → Type 0
+StatusIs a status = StatusOf (λ r k. k ≡ number_of r) a status
 
 -- an answer that is a number, or a count of keys or entries, or a text's length: its status, and the number handed out, which stood at `was` and is now `is`
 abbrev pub NumberHanded : Result ℕ Refusal → ℕ → ℕ → ℕ → Type 0
 NumberHanded a was is status = HandedOut (λ r k. k ≡ number_of r) a was is status
 
 -- sum: its four figures
-abbrev pub held_out : Result Figures Refusal → ℕ → ℕ
+abbrev pub held_out : {E : Type 0} → Result Figures E → ℕ → ℕ
 held_out a was = handed (λ (f : Figures). f.held) a was
 
-abbrev pub free_out : Result Figures Refusal → ℕ → ℕ
+abbrev pub free_out : {E : Type 0} → Result Figures E → ℕ → ℕ
 free_out a was = handed (λ (f : Figures). f.free) a was
 
-abbrev pub preferred_out : Result Figures Refusal → ℕ → ℕ
+abbrev pub preferred_out : {E : Type 0} → Result Figures E → ℕ → ℕ
 preferred_out a was = handed (λ (f : Figures). f.free_preferred) a was
 
-abbrev pub permille_out : Result Figures Refusal → ℕ → ℕ
+abbrev pub permille_out : {E : Type 0} → Result Figures E → ℕ → ℕ
 permille_out a was = handed (λ (f : Figures). f.permille) a was
 
 -- a connection that left: the count of its own keys, and that of its parents'
-abbrev pub own_out : Result Departure Refusal → ℕ → ℕ
+abbrev pub own_out : {E : Type 0} → Result Departure E → ℕ → ℕ
 own_out a was = handed (λ (d : Departure). d.own) a was
 
-abbrev pub parents_out : Result Departure Refusal → ℕ → ℕ
+abbrev pub parents_out : {E : Type 0} → Result Departure E → ℕ → ℕ
 parents_out a was = handed (λ (d : Departure). d.parents) a was
 
 -- a plan: the count of keys considered, that of the entries, and when to look again, 0 standing for none
-abbrev pub considered_out : Result Selection Refusal → ℕ → ℕ
+abbrev pub considered_out : {E : Type 0} → Result Selection E → ℕ → ℕ
 considered_out a was = handed (λ (p : Selection). p.considered) a was
 
-abbrev pub chosen_out : Result Selection Refusal → ℕ → ℕ
+abbrev pub chosen_out : {E : Type 0} → Result Selection E → ℕ → ℕ
 chosen_out a was = handed (λ (p : Selection). p.chosen) a was
 
-abbrev pub next_out : Result Selection Refusal → ℕ → ℕ
+abbrev pub next_out : {E : Type 0} → Result Selection E → ℕ → ℕ
 next_out a was = handed (λ (p : Selection). unwrap_or p.next 0) a was
 
 -- the reply of a status, and of what was handed out: r, if the call was carried out

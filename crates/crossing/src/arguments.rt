@@ -6,11 +6,13 @@ ghost use Rattle.requests.specs.Changes.{candidate_of};
 ghost use Rattle.ident.specs.Number.{kind_is};
 ghost use Rattle.crossing.specs.Arguments.{candidate_in, key_given};
 
+use ident::HASH_BYTES;
+
 // One announcement from its parts, the item by its type number.
 pub fn candidate(
     connection: u64,
     item_type: u32,
-    hash: &[u8; 32],
+    hash: &[u8; HASH_BYTES],
     ready: u64,
     preferred: bool,
     priority: u64,
@@ -30,7 +32,7 @@ pub fn candidate(
 }
 
 // A key, its kind by its number as answer buffers have it.
-pub fn key_given(kind: u64, hash: &[u8; 32]) -> ident::Key
+pub fn key_given(kind: u64, hash: &[u8; HASH_BYTES]) -> ident::Key
     ensures { key_num result ≡ key_given kind hash.now }
 {
     let kind = ident::Kind::from(kind);

@@ -3,20 +3,21 @@
 #![tactic(auto)]
 
 ghost use Rattle.std.specs.Prelude.{◌≡◌};
-ghost use Rattle.outcome.specs.Refusals.{refusal_in};
 ghost use Rattle.crossing.specs.Status.{held_out, free_out, preferred_out, permille_out, own_out, parents_out, considered_out, chosen_out, next_out};
 ghost use Rattle.crossing.specs.Counts.{announced_out, owned_out};
-ghost use Rattle.crossing.specs.Handed.{Handed, HandedOut};
+ghost use Rattle.crossing.specs.Handed.{Handed, HandedOut, StatusOf};
 
-use outcome::{Departure, Figures, Refusal};
+use outcome::{Departure, Figures};
 use public_plans::Selection;
 use public_requests::Counts;
 
 pub mod arguments;
 
 // The status of an answer.
-pub fn status(a: Result<u64, Refusal>) -> u64
-    ensures { result ≡ refusal_in a }
+pub fn status<E>(a: Result<u64, E>) -> u64
+where
+    u64: From<E>,
+    ensures { StatusOf ⟦<u64 as From<E>>⟧.from_gives a result }
 {
     a.err().map_or(0, u64::from)
 }
@@ -49,14 +50,16 @@ where
 }
 
 // The same of sum's figures.
-pub fn hand_figures(
-    a: Result<Figures, Refusal>,
+pub fn hand_figures<E>(
+    a: Result<Figures, E>,
     held: &mut u64,
     free: &mut u64,
     preferred_free: &mut u64,
     permille: &mut u64,
 ) -> u64
-    ensures { (result ≡ refusal_in a) × (held.new ≡ held_out a held.old) × (free.new ≡ free_out a free.old)
+where
+    u64: From<E>,
+    ensures { (StatusOf ⟦<u64 as From<E>>⟧.from_gives a result) × (held.new ≡ held_out a held.old) × (free.new ≡ free_out a free.old)
         × (preferred_free.new ≡ preferred_out a preferred_free.old) × (permille.new ≡ permille_out a permille.old) }
 {
     let mut write = |figures: Figures| {
@@ -69,8 +72,10 @@ pub fn hand_figures(
 }
 
 // The same of a connection that left: the counts of its own keys and of its parents' are handed out.
-pub fn hand_departure(a: Result<Departure, Refusal>, own: &mut u64, parents: &mut u64) -> u64
-    ensures { (result ≡ refusal_in a) × (own.new ≡ own_out a own.old) × (parents.new ≡ parents_out a parents.old) }
+pub fn hand_departure<E>(a: Result<Departure, E>, own: &mut u64, parents: &mut u64) -> u64
+where
+    u64: From<E>,
+    ensures { (StatusOf ⟦<u64 as From<E>>⟧.from_gives a result) × (own.new ≡ own_out a own.old) × (parents.new ≡ parents_out a parents.old) }
 {
     let mut write = |left: Departure| {
         *own = left.own;
@@ -80,13 +85,15 @@ pub fn hand_departure(a: Result<Departure, Refusal>, own: &mut u64, parents: &mu
 }
 
 // The same of a plan: the counts of keys considered and of entries are handed out, and when to look again, 0 for no time.
-pub fn hand_plan(
-    a: Result<Selection, Refusal>,
+pub fn hand_plan<E>(
+    a: Result<Selection, E>,
     considered: &mut u64,
     count: &mut u64,
     next: &mut u64,
 ) -> u64
-    ensures { (result ≡ refusal_in a) × (considered.new ≡ considered_out a considered.old) × (count.new ≡ chosen_out a count.old) × (next.new ≡ next_out a next.old) }
+where
+    u64: From<E>,
+    ensures { (StatusOf ⟦<u64 as From<E>>⟧.from_gives a result) × (considered.new ≡ considered_out a considered.old) × (count.new ≡ chosen_out a count.old) × (next.new ≡ next_out a next.old) }
 {
     let mut write = |plan: Selection| {
         *considered = plan.considered;
@@ -97,8 +104,10 @@ pub fn hand_plan(
 }
 
 // The same of a connection's counts.
-pub fn hand_counts(a: Result<Counts, Refusal>, announced: &mut u64, owned: &mut u64) -> u64
-    ensures { (result ≡ refusal_in a) × (announced.new ≡ announced_out a announced.old) × (owned.new ≡ owned_out a owned.old) }
+pub fn hand_counts<E>(a: Result<Counts, E>, announced: &mut u64, owned: &mut u64) -> u64
+where
+    u64: From<E>,
+    ensures { (StatusOf ⟦<u64 as From<E>>⟧.from_gives a result) × (announced.new ≡ announced_out a announced.old) × (owned.new ≡ owned_out a owned.old) }
 {
     let mut write = |counts: Counts| {
         *announced = counts.announced;

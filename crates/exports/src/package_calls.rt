@@ -43,8 +43,10 @@ pub extern "C" fn tracker_claim_package(
         s.old s.new result reply.old reply.new }
 {
     let subject = ident::Wtxid(ident::Hash::from(hash));
-    let d = ident::Hash::from(combined);
-    let a = public_packages::package_calls::claim_package(s, connection, subject, d, wtxids, clock);
+    let combined = ident::Hash::from(combined);
+    let a = public_packages::package_calls::claim_package(
+        s, connection, subject, combined, wtxids, clock,
+    );
     hand_out(a, reply)
 }
 
@@ -64,9 +66,9 @@ pub extern "C" fn tracker_begin_package_resolution(
         s.old s.new result reply.old reply.new }
 {
     let subject = ident::Wtxid(ident::Hash::from(hash));
-    let d = ident::Hash::from(combined);
+    let combined = ident::Hash::from(combined);
     let a = public_packages::package_calls::begin_package_resolution(
-        s, connection, subject, d, wtxids, clock,
+        s, connection, subject, combined, wtxids, clock,
     );
     hand_out(a, reply)
 }

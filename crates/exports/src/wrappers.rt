@@ -38,11 +38,11 @@ pub extern "C" fn tracker_transaction_response_completed(
 ) -> u64
     ensures { Leaves (On (TransactionResponseCompleted connection (hash_given txid.now) (hash_given wtxid.now) clock)) s.old s.new (numbered result 1) }
 {
-    let g = ident::Hash::from(txid);
-    let h = ident::Hash::from(wtxid);
-    let x = ident::Txid(g);
-    let w = ident::Wtxid(h);
-    status(public_plans::wrappers::transaction_response_completed(s, connection, x, w, clock))
+    let txid = ident::Txid(ident::Hash::from(txid));
+    let wtxid = ident::Wtxid(ident::Hash::from(wtxid));
+    status(public_plans::wrappers::transaction_response_completed(
+        s, connection, txid, wtxid, clock,
+    ))
 }
 
 // The connection does not have the items, which are given in 40 bytes each: what it owns of them has failed, and so have its claims to the packages among them. The

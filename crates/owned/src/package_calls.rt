@@ -46,9 +46,9 @@ pub extern "C" fn tracker_owned_claim_package(
     ensures sound { SoundStore s.new }
 {
     let subject = ident::Wtxid(ident::Hash::from(hash));
-    let d = ident::Hash::from(combined);
+    let combined = ident::Hash::from(combined);
     let a = public_packages::on_sound::package_calls::claim_package(
-        s, connection, subject, d, wtxids, clock,
+        s, connection, subject, combined, wtxids, clock,
     );
     crossing::hand_out(a, reply)
 }
@@ -71,9 +71,9 @@ pub extern "C" fn tracker_owned_begin_package_resolution(
     ensures sound { SoundStore s.new }
 {
     let subject = ident::Wtxid(ident::Hash::from(hash));
-    let d = ident::Hash::from(combined);
+    let combined = ident::Hash::from(combined);
     let a = public_packages::on_sound::package_calls::begin_package_resolution(
-        s, connection, subject, d, wtxids, clock,
+        s, connection, subject, combined, wtxids, clock,
     );
     crossing::hand_out(a, reply)
 }

@@ -41,13 +41,11 @@ pub extern "C" fn tracker_owned_transaction_response_completed(
     ensures leaves { Leaves (On (TransactionResponseCompleted connection (hash_given txid.now) (hash_given wtxid.now) clock)) s.old s.new (numbered result 1) }
     ensures sound { SoundStore s.new }
 {
-    let g = ident::Hash::from(txid);
-    let h = ident::Hash::from(wtxid);
-    let x = ident::Txid(g);
-    let w = ident::Wtxid(h);
+    let txid = ident::Txid(ident::Hash::from(txid));
+    let wtxid = ident::Wtxid(ident::Hash::from(wtxid));
     crossing::status(
         public_plans::on_sound::wrappers::transaction_response_completed(
-            s, connection, x, w, clock,
+            s, connection, txid, wtxid, clock,
         ),
     )
 }

@@ -5,4 +5,4 @@ use Rattle.exports.proofs.package_calls.tracker_begin_package_resolution.Goals a
 pub returns : goal.returns
 returns c =
     hands_out c.begin_package_resolution-a.result _ c.begin_package_resolution-a.ensures c.hand_out.ensures
-    (rw (c.from.ensures, c.from-d.ensures))
+    (rw (c.from.ensures, c.from-combined.ensures))

@@ -5,4 +5,4 @@ use Rattle.exports.proofs.package_calls.tracker_claim_package.Goals as goal
 pub returns : goal.returns
 returns c =
     hands_out c.claim_package-a.result _ c.claim_package-a.ensures c.hand_out.ensures
-    (rw (c.from.ensures, c.from-d.ensures))
+    (rw (c.from.ensures, c.from-combined.ensures))

@@ -6,4 +6,4 @@ use Rattle.exports.proofs.wrappers.tracker_transaction_response_completed.Goals 
 pub returns : goal.returns
 returns c =
     one_told (completes _ _ _ _) c.transaction_response_completed.result c.transaction_response_completed.ensures
-    c.status.ensures (rw (c.from-g.ensures, c.from-h.ensures))
+    c.status.ensures (rw (c.from.ensures, c.from-2.ensures))

@@ -11,10 +11,10 @@ returns c =
     c.args.clock
     c.args.wtxids.now (omega arith)
     (hash_below _ (hash-four _ c.from.type_inv))
-    (hash_below _ (hash-four _ c.from-d.type_inv)) (omega arith)
+    (hash_below _ (hash-four _ c.from-combined.type_inv)) (omega arith)
     (λ i. omega (arith, c.type_inv.wtxids i))) in
     let o = owner-number m c.requires
     (λ i. grind arith) c.claim_package-a.result _
     c.claim_package-a.ensures c.hand_out.ensures
-    (rw (c.from.ensures, c.from-d.ensures)) in
+    (rw (c.from.ensures, c.from-combined.ensures)) in
     record { hands_out = o.0; sound = o.1 }

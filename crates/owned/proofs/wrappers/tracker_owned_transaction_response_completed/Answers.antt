@@ -9,10 +9,10 @@ use Rattle.owned.proofs.wrappers.tracker_owned_transaction_response_completed.Go
 pub returns : goal.returns
 returns c =
     let m = makes c.args.connection _ _ c.args.clock
-    (omega arith) (hash_below _ (hash-four _ c.from-g.type_inv))
-    (hash_below _ (hash-four _ c.from-h.type_inv)) (omega arith) in
+    (omega arith) (hash_below _ (hash-four _ c.from.type_inv))
+    (hash_below _ (hash-four _ c.from-2.type_inv)) (omega arith) in
     let o = owner_one m c.requires
     (λ i. grind arith) (completes _ _ _ _)
     c.transaction_response_completed.result c.transaction_response_completed.ensures c.status.ensures
-    (rw (c.from-g.ensures, c.from-h.ensures)) in
+    (rw (c.from.ensures, c.from-2.ensures)) in
     record { leaves = o.0; sound = o.1 }
