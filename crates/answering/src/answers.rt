@@ -21,7 +21,7 @@ fn answer_open(store: &mut [u8], lists: &mut Lists, out: &mut [u8], l: u64, q: u
             *lists = Lists::none();
             put_bytes(out, 0, b"ok")
         }
-        Err(e) => refusal(out, e),
+        Err(cause) => refusal(out, u64::from(cause)),
     }
 }
 

@@ -21,6 +21,6 @@ pub fn answer_leaving(store: &mut [u8], out: &mut [u8], v: Values) -> usize
             let n = (left.own + left.parents) as usize;
             printing::keys::put_departure(out, &answer, left.own, n)
         }
-        Err(e) => refusal(out, e),
+        Err(cause) => refusal(out, u64::from(cause)),
     }
 }

@@ -9,14 +9,15 @@ ghost use Rattle.reading.specs.Given.{values_of};
 ghost use Rattle.printing.specs.Given.{line_room, answer_room, Carried};
 ghost use Rattle.printing.specs.Answers.{Keeping};
 
+use asking::calls::MOST_PLACES;
+use inventory::items::ITEMS;
+use machine::limits::MAX_PARENTS;
 use printing::keys::listing;
 use printing::numbers::unreadable;
 use reading::forms::Values;
 
-// Keys of the longest answer: those of the 21,845 items that a line has room for, and of the parents of two packages.
-const MOST_KEYS: usize = 22_045;
-
-const ANSWER: usize = MOST_KEYS * lent_lists::KEY;
+// Bytes of the longest answer: a key for each item that a line has room for, and for each parent of each package.
+const ANSWER: usize = (ITEMS + MOST_PLACES as usize * MAX_PARENTS) * lent_lists::KEY;
 
 // (By itself, as `printing::buffers` are: the contract names the value.)
 fn missing_buffer() -> [u8; ANSWER]

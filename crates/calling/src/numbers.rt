@@ -24,7 +24,7 @@ pub fn answer_sum(store: &[u8], out: &mut [u8]) -> usize
 {
     match public_requests::sum(store) {
         Ok(f) => figures(out, f),
-        Err(e) => refusal(out, e),
+        Err(cause) => refusal(out, u64::from(cause)),
     }
 }
 

@@ -18,7 +18,7 @@ fn listing(out: &mut [u8], answer: &[u8], hashes: &[u8], a: Result<u64, Refusal>
 {
     match a {
         Ok(n) => put_owners(out, answer, hashes, n),
-        Err(e) => refusal(out, e),
+        Err(cause) => refusal(out, u64::from(cause)),
     }
 }
 

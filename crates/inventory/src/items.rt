@@ -13,7 +13,7 @@ use reading::fields::item_at;
 use reading::list::{self, Element};
 
 // The most items that a line of 65,536 bytes can hold: each takes a comma, a letter and a digit or more.
-const ITEMS: usize = 21_845;
+pub const ITEMS: usize = 21_845;
 
 const STORED: usize = ITEMS * ITEM;
 

@@ -18,6 +18,7 @@ use Rattle.machine.specs.Step.{Reply, Refused, Entries, Chosen, entries_answer, 
 use Rattle.machine.proofs.AnswerLengths.{length-entries_answer}
 use Rattle.store.specs.Image.{SoundStore}
 use Rattle.store.specs.Read.{state_of}
+use Rattle.choosing.specs.Choosing.{option_of}
 use Rattle.claiming.specs.Claiming.{entries_from, entries_in}
 use Rattle.sending.proofs.Arranged.{arrange-sorted}
 use Rattle.outcome.specs.Outcome.{Effect, Does}
@@ -39,7 +40,7 @@ use Rattle.printing.specs.Replies.{refusal_text, unreadable, listed, entry_texts
 use Rattle.printing.specs.Given.{most_entries, Printed}
 use Rattle.printing.specs.Kept.{KeptLists, chosen_or, entries_or}
 use Rattle.printing.specs.Answers.{part_text, Answered, Keeping}
-use Rattle.keeping.specs.Steps.{Listable, KeptReply, PartRefused}
+use Rattle.keeping.specs.Steps.{Listable, KeptReply, entries_with, planned_with, EntriesKept, SelectionKept, PartRefused}
 use Rattle.printing.proofs.Printing.{reply-refused}
 use Rattle.printing.proofs.Lines.{keeps_unread}
 use Rattle.printing.proofs.Fitting.{leaves, leaves_is, reply-fits}
@@ -66,19 +67,14 @@ module _ {u : Buffer} {n : ℕ} where
       let k : length (answer_bytes y) ≡ entry_bytes * n = ap length e ∙ length-entries_answer (entries_from u 0 n) ∙ ap (◌*◌ entry_bytes) (length_from u 0 n) in
       (omega (arith, f.long, f.fits, k), omega (arith, f.fits, k))
 
-  pub entries_fit : {a : Result ℕ Refusal} → a ≡ Ok n → Listable (entries_of a u) u → (n ≤ most_entries) × (entry_bytes * n ≤ length u)
-  entries_fit {a} e f = fit_in (entries_of a u) (ap (λ (x : Result ℕ Refusal). answer_bytes (entries_of x u)) e) f
+  pub entries_fit : {E : Type 0} {a : Result ℕ E} → a ≡ Ok n → Listable (entries_with 0 a u) u → (n ≤ most_entries) × (entry_bytes * n ≤ length u)
+  entries_fit {E} {a} e f = fit_in (entries_with 0 a u) (ap (λ (x : Result ℕ E). answer_bytes (entries_with 0 x u)) e) f
 
-pub selection-fits : {u : Buffer} {p : Selection} {a : Result Selection Refusal} → a ≡ Ok p → Listable (planned_of a u) u → (p.chosen ≤ most_entries) × (entry_bytes * p.chosen ≤ length u)
-selection-fits {u} {p} {a} e f = fit_in (planned_of a u) (ap (λ (x : Result Selection Refusal). answer_bytes (planned_of x u)) e) f
+pub selection-fits : {E : Type 0} {u : Buffer} {p : Selection} {a : Result Selection E} → a ≡ Ok p → Listable (planned_with 0 a u) u
+    → (p.chosen ≤ most_entries) × (entry_bytes * p.chosen ≤ length u)
+selection-fits {E} {u} {p} {a} e f = fit_in (planned_with 0 a u) (ap (λ (x : Result Selection E). answer_bytes (planned_with 0 x u)) e) f
 
 module _ (l : List Entry) {out out' : List ℕ} {y : Reply} {r : ℕ} where
-  pub entries-refused : {n : ℕ} → y ≡ Refused n → Printed out out' (refusal_text n) r → KeptReply l (entries_or l y) out out' y r
-  entries-refused e t = record { list = sym (ap (entries_or l) e); text = λ a. reply-refused (On a) e t }
-
-  pub selection-refused : {n : ℕ} → y ≡ Refused n → Printed out out' (refusal_text n) r → KeptReply l (chosen_or l y) out out' y r
-  selection-refused e t = record { list = sym (ap (chosen_or l) e); text = λ a. reply-refused (On a) e t }
-
   pub entries_kept : {l' m : List Entry} → l' ≡ m → y ≡ Entries m → Printed out out' (listed (entry_texts m)) r → KeptReply l' (entries_or l y) out out' y r
   unfolding reply_text
   entries_kept h e t = record { list = h ∙ sym (ap (entries_or l) e); text = λ a. rw e t }
@@ -86,6 +82,48 @@ module _ (l : List Entry) {out out' : List ℕ} {y : Reply} {r : ℕ} where
   pub selection_kept : {l' m : List Entry} {k : ℕ} {x : Option ℕ} → l' ≡ m → y ≡ Chosen k m x → Printed out out' (selection_text k m x) r → KeptReply l' (chosen_or l y) out out' y r
   unfolding reply_text
   selection_kept h e t = record { list = h ∙ sym (ap (chosen_or l) e); text = λ a. rw e t }
+
+-- an answer whose refusal has any number
+module _ {E : Type 0} {numbered : E → ℕ → Type 0} (u : Buffer) {l l' : List Entry} {out out' : List ℕ} {r : ℕ} where
+  module _ {a : Result ℕ E} where
+    entries_as : (x : Result ℕ E) → a ≡ x → EntriesKept numbered x u l l' out out' r → EntriesKept numbered a u l l' out out' r
+    entries_as x g k = subst (λ (y : Result ℕ E). EntriesKept numbered y u l l' out out' r) (sym g) k
+
+    pub refused_entries : {e : E} (k : ℕ) → a ≡ Err e → numbered e k → l' ≡ l → Printed out out' (refusal_text k) r → EntriesKept numbered a u l l' out out' r
+    refused_entries {e} k g h s t = entries_as (Err e) g (record { number = k; given = h; kept = record { list = s; text = λ x. reply-refused (On x) refl t } })
+
+    pub listed_entries : {n : ℕ} → a ≡ Ok n → l' ≡ entries_from u 0 n → Printed out out' (listed (entry_texts (entries_from u 0 n))) r → EntriesKept numbered a u l l' out out' r
+    listed_entries {n} g h t = entries_as (Ok n) g (record { number = 0; given = tt; kept = entries_kept l h refl t })
+
+  module _ {a : Result Selection E} where
+    selection_as : (x : Result Selection E) → a ≡ x → SelectionKept numbered x u l l' out out' r → SelectionKept numbered a u l l' out out' r
+    selection_as x g k = subst (λ (y : Result Selection E). SelectionKept numbered y u l l' out out' r) (sym g) k
+
+    pub refused_selection : {e : E} (k : ℕ) → a ≡ Err e → numbered e k → l' ≡ l → Printed out out' (refusal_text k) r → SelectionKept numbered a u l l' out out' r
+    refused_selection {e} k g h s t = selection_as (Err e) g (record { number = k; given = h; kept = record { list = s; text = λ x. reply-refused (On x) refl t } })
+
+    pub listed_selection : {p : Selection} → a ≡ Ok p → l' ≡ entries_from u 0 p.chosen
+        → Printed out out' (selection_text p.considered (entries_from u 0 p.chosen) (option_of p.next)) r → SelectionKept numbered a u l l' out out' r
+    listed_selection {p} g h t = selection_as (Ok p) g (record { number = 0; given = tt; kept = selection_kept l h refl t })
+
+-- of a public call
+module _ (u : Buffer) {l l' : List Entry} {out out' : List ℕ} {r : ℕ} where
+  pub entries_told : (a : Result ℕ Refusal) → EntriesKept (λ e k. k ≡ number_of e) a u l l' out out' r → KeptReply l' (entries_or l (entries_of a u)) out out' (entries_of a u) r
+  entries_told (Ok n) p = p.kept
+  entries_told (Err e) p = subst (λ (k : ℕ). KeptReply l' (entries_or l (Refused k)) out out' (Refused k) r) p.given p.kept
+
+  pub selection_told : (a : Result Selection Refusal) → SelectionKept (λ e k. k ≡ number_of e) a u l l' out out' r
+      → KeptReply l' (chosen_or l (planned_of a u)) out out' (planned_of a u) r
+  selection_told (Ok p) q = q.kept
+  selection_told (Err e) q = subst (λ (k : ℕ). KeptReply l' (chosen_or l (Refused k)) out out' (Refused k) r) q.given q.kept
+
+pub entries_asked : (a : Result ℕ Refusal) (u : Buffer) → Listable (entries_of a u) u → Listable (entries_with 0 a u) u
+entries_asked (Ok n) u f = f
+entries_asked (Err e) u f = record { long = f.long; fits = f.fits }
+
+pub selection_asked : (a : Result Selection Refusal) (u : Buffer) → Listable (planned_of a u) u → Listable (planned_with 0 a u) u
+selection_asked (Ok p) u f = f
+selection_asked (Err e) u f = record { long = f.long; fits = f.fits }
 
 -- a call's reply in its answer buffer
 pub listable : {a : Ask} {b : List ℕ} {e : Effect} → Does (On a) b e → length e.buffer ≡ 12000 → Listable e.reply e.buffer

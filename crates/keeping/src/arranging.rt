@@ -66,6 +66,6 @@ pub fn answer_part(store: &[u8], lists: &Lists, out: &mut [u8], connection: u64)
 {
     match of_part(store, connection) {
         Ok(connection) => put_part(out, &lists.arranged, connection.number),
-        Err(e) => refusal(out, e),
+        Err(cause) => refusal(out, u64::from(cause)),
     }
 }

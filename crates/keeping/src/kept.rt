@@ -5,15 +5,13 @@ ghost use Rattle.std.specs.Prelude.{◌≡◌, ◌*◌, ◌≤◌, List, [], len
 ghost use Rattle.machine.specs.State.{Entry};
 ghost use Rattle.machine.specs.Call.{entry_bytes};
 ghost use Rattle.claiming.specs.Claiming.{entries_from, entries_in};
-ghost use Rattle.public_plans.specs.Entries.{entries_of, planned_of};
 ghost use Rattle.public_plans.specs.Parts.{connections_in};
 ghost use Rattle.regions.specs.Order.{Sorted};
 ghost use Rattle.printing.specs.Given.{answer_room, most_entries};
-ghost use Rattle.printing.specs.Kept.{KeptLists, no_lists, chosen_or, entries_or};
-ghost use Rattle.keeping.specs.Steps.{Listable, KeptReply};
+ghost use Rattle.printing.specs.Kept.{KeptLists, no_lists};
+ghost use Rattle.keeping.specs.Steps.{Listable, entries_with, planned_with, EntriesKept, SelectionKept};
 
 use claiming::entries::ENTRY_BYTES;
-use outcome::Refusal;
 use printing::buffers::ANSWER;
 use printing::numbers::refusal;
 use public_plans::Selection;
@@ -38,7 +36,7 @@ impl Model for EntryList {
 }
 
 impl EntryList {
-    fn none() -> EntryList
+    pub fn none() -> EntryList
         ensures { result ≡ [] }
     {
         EntryList {
@@ -66,29 +64,33 @@ impl EntryList {
     }
 
     // The reply of a take or of an arrangement as text. Entries that it lists become the list.
-    pub fn keep_entries(&mut self, out: &mut [u8], answer: &[u8], a: Result<u64, Refusal>) -> usize
-        requires { (answer_room ≤ length out.old) × Listable (entries_of a answer.now) answer.now }
-        ensures { KeptReply self.new (entries_or self.old (entries_of a answer.now)) out.old out.new (entries_of a answer.now) result }
+    pub fn keep_entries<E>(&mut self, out: &mut [u8], answer: &[u8], a: Result<u64, E>) -> usize
+    where
+        u64: From<E>,
+        requires { (answer_room ≤ length out.old) × Listable (entries_with 0 a answer.now) answer.now }
+        ensures { EntriesKept ⟦<u64 as From<E>>⟧.from_gives a answer.now self.old self.new out.old out.new result }
     {
         match a {
             Ok(n) => {
                 self.keep(answer, n as usize);
                 printing::entries::put_entries(out, answer, 0, n as usize)
             }
-            Err(e) => refusal(out, e),
+            Err(cause) => refusal(out, u64::from(cause)),
         }
     }
 
     // The reply of a plan as text. What it has selected becomes the list. (As `keep_entries`: each has its own reply, its own text of it, and its own reading of what is kept in
     // its contract, and they share `keep` and `refusal`.)
-    pub fn keep_selection(
+    pub fn keep_selection<E>(
         &mut self,
         out: &mut [u8],
         answer: &[u8],
-        a: Result<Selection, Refusal>,
+        a: Result<Selection, E>,
     ) -> usize
-        requires { (answer_room ≤ length out.old) × Listable (planned_of a answer.now) answer.now }
-        ensures { KeptReply self.new (chosen_or self.old (planned_of a answer.now)) out.old out.new (planned_of a answer.now) result }
+    where
+        u64: From<E>,
+        requires { (answer_room ≤ length out.old) × Listable (planned_with 0 a answer.now) answer.now }
+        ensures { SelectionKept ⟦<u64 as From<E>>⟧.from_gives a answer.now self.old self.new out.old out.new result }
     {
         match a {
             Ok(plan) => {
@@ -96,7 +98,7 @@ impl EntryList {
                 self.keep(answer, n);
                 printing::entries::put_selection(out, answer, plan.considered, n, plan.next)
             }
-            Err(e) => refusal(out, e),
+            Err(cause) => refusal(out, u64::from(cause)),
         }
     }
 }
@@ -118,13 +120,20 @@ impl Model for Lists {
 }
 
 impl Lists {
+    pub fn of(plan: EntryList, taken: EntryList, arranged: EntryList) -> Lists
+        requires { Sorted (connections_in arranged) }
+        ensures { result ≡ record { plan = plan; taken = taken; arranged = arranged } }
+    {
+        Lists {
+            plan,
+            taken,
+            arranged,
+        }
+    }
+
     pub fn none() -> Lists
         ensures { result ≡ no_lists }
     {
-        Lists {
-            plan: EntryList::none(),
-            taken: EntryList::none(),
-            arranged: EntryList::none(),
-        }
+        Lists::of(EntryList::none(), EntryList::none(), EntryList::none())
     }
 }

@@ -25,7 +25,7 @@ pub fn answer_plan(store: &mut [u8], lists: &mut Lists, out: &mut [u8], clock: u
     lists.plan.keep_selection(out, &answer, a)
 }
 
-// Plans over the keys that are given, in 40 bytes each.
+// Plans over the keys that are given, in 40 bytes each. (Two calls of document 01, of one shape: as in `calling::parents`.)
 fn plan_given(
     store: &mut [u8],
     lists: &mut Lists,

@@ -1,19 +1,20 @@
 -- Texts behind others, each behind a comma; the keys of a connection that left.
-use Prim.Native.Nat.{ℕ, ◌+◌, ◌*◌, ◌≤◌}
-use mathlib.Core.Path.{◌≡◌, refl, sym, ap, ◌∙◌}
+use Prim.Native.Nat.{ℕ, zero, suc, ◌+◌, ◌-◌, ◌*◌, ◌≤◌}
+use mathlib.Core.Path.{◌≡◌, refl, sym, ap, subst, ◌∙◌}
 use mathlib.Core.List.{List, [], ◌∷◌, ◌++◌, append_assoc, append-nil}
 use native.Mathlib.Omega.{arith}
-use lib.ListN.{length, drop}
+use lib.ListN.{length, take, drop}
+use lib.Seq.{drop-drop}
 use Rattle.ident.specs.Number.{Key}
 use Rattle.words.specs.Words.{recs}
 use Rattle.words.proofs.Records.{recs-add}
 use Rattle.machine.specs.Call.{Buffer, key_bytes, Ask, On}
 use Rattle.machine.specs.Step.{Reply, Left}
-use Rattle.lent_lists.specs.Lists.{keys_in}
-use Rattle.machine.specs.Text.{hash_digits, decimal, key_text, joined}
+use Rattle.lent_lists.specs.Lists.{key_in, keys_in}
+use Rattle.machine.specs.Text.{decimal, key_text, joined}
 use Rattle.lines.specs.Text.{Wrote}
 use Rattle.lines.proofs.Writing.{wrote_more, wrote_none}
-use Rattle.printing.specs.Replies.{key_texts, reply_text}
+use Rattle.printing.specs.Replies.{listed, key_texts, reply_text}
 use Rattle.printing.specs.Given.{next_room, answer_room, most_keys, behind, Printed}
 use Rattle.printing.proofs.KeyLists.{key_at, keys_more, texts-append, key-length, length-keys}
 use Rattle.printing.proofs.Printing.{decimal_end}
@@ -44,12 +45,42 @@ pub none_behind : (out : List ℕ) (at : ℕ) (u : Buffer) {at' : ℕ} → at' �
 unfolding behind key_texts keys_in recs
 none_behind out at u e = record { bytes = (wrote_none out at).bytes; next = omega (arith, e) }
 
-pub more_behind : {out₀ out s s' : List ℕ} {at₀ at e r : ℕ} (i : ℕ) (u : Buffer) → at + (2 + hash_digits) ≤ length out₀ → length out ≡ length out₀
-    → Wrote out₀ out at₀ (behind (key_texts (keys_in i u))) at
-    → Wrote out s at (44 ∷ []) e → Wrote s s' e (key_text (key_at u i)) r → (r ≤ at + next_room) × Wrote out₀ s' at₀ (behind (key_texts (keys_in (i + 1) u))) r
-more_behind i u h l p q w =
-    let k = key-length (key_at u i) in
-    (omega (arith, q.next, w.next), rw (next_behind i u) (wrote_more p (wrote_more q w (omega (arith, q.next))) (omega (arith))))
+-- the i-th key behind the first ones
+key_behind : (first i : ℕ) (u : Buffer) → key_at u (first + i) ≡ key_at (drop (key_bytes * first) u) i
+key_behind first i u =
+    let e : key_bytes * (first + i) ≡ key_bytes * first + key_bytes * i = omega arith in
+    ap (λ (x : Buffer). key_in (take key_bytes x)) (ap (λ (n : ℕ). drop n u) e ∙ sym (drop-drop (key_bytes * i) (key_bytes * first) u))
+
+pub more_behind : {out₀ out s s' : List ℕ} {at₀ at e r : ℕ} (first i : ℕ) (u : Buffer) → at + next_room ≤ length out₀ → length out ≡ length out₀
+    → Wrote out₀ out at₀ (behind (key_texts (keys_in i (drop (key_bytes * first) u)))) at
+    → Wrote out s at (44 ∷ []) e → Wrote s s' e (key_text (key_at u (first + i))) r
+    → (r ≤ at + next_room) × Wrote out₀ s' at₀ (behind (key_texts (keys_in (i + 1) (drop (key_bytes * first) u)))) r
+more_behind {out₀} {out} {s} {s'} {at₀} {at} {e} {r} first i u h l p q w₀ =
+    let v = drop (key_bytes * first) u in
+    let w : Wrote s s' e (key_text (key_at v i)) r = subst (λ (k : Key). Wrote s s' e (key_text k) r) (key_behind first i u) w₀ in
+    let k = key-length (key_at v i) in
+    (omega (arith, q.next, w.next), rw (next_behind i v) (wrote_more p (wrote_more q w (omega (arith, q.next))) (omega (arith))))
+
+-- ---- keys listed
+
+some_listed : (u : Buffer) (n : ℕ) → listed (key_texts (keys_in (suc n) u)) ≡ key_text (key_at u 0) ++ behind (key_texts (keys_in n (drop (key_bytes * 1) u)))
+unfolding key_texts keys_in recs
+some_listed u n = joined-behind (key_text (key_at u 0)) (key_texts (keys_in n (drop (key_bytes * 1) u)))
+
+module _ {out₀ : List ℕ} (room : answer_room ≤ length out₀) (u : Buffer) where
+  pub none_listed : {out : List ℕ} {n r : ℕ} → n ≡ 0 → Wrote out₀ out 0 (45 ∷ []) r → Printed out₀ out (listed (key_texts (keys_in n u))) r
+  unfolding keys_in recs key_texts
+  none_listed e p = rw e (record { wrote = p; room = omega (arith, p.next) })
+
+  pub all_listed : {out out' : List ℕ} {e r : ℕ} (n : ℕ) → (n ≡ 0 → ⊥) → n ≤ most_keys → Wrote out₀ out 0 (key_text (key_at u 0)) e
+      → Wrote out out' e (behind (key_texts (keys_in (n - 1) (drop (key_bytes * 1) u)))) r → r ≤ e + next_room * (n - 1)
+      → Printed out₀ out' (listed (key_texts (keys_in n u))) r
+  all_listed zero z m p q h = absurd (z refl)
+  all_listed {out} {out'} {e} {r} (suc n) z m p q h =
+      let k = key-length (key_at u 0) in
+      let f : suc n - 1 ≡ n = omega arith in
+      let q' : Wrote out out' e (behind (key_texts (keys_in n (drop (key_bytes * 1) u)))) r = rw f at q in
+      record { wrote = rw (some_listed u n) (wrote_more p q' (omega (arith, p.next, q'.next))); room = omega (arith, p.next) }
 
 -- ---- the keys of a connection that left
 

@@ -14,12 +14,12 @@ use Rattle.machine.specs.Step.{Reply, Refused, Left, Result, answer_bytes, writt
 use Rattle.machine.proofs.AnswerLengths.{length-keys_answer}
 use Rattle.store.specs.Image.{stored}
 use Rattle.store.specs.Read.{state_of}
-use Rattle.std.specs.Prelude.{Result as StdResult, Ok}
+use Rattle.std.specs.Prelude.{Result as StdResult, Ok, Err}
 use Rattle.outcome.specs.declared.refusal.Refusal.{Refusal}
 use Rattle.outcome.specs.Outcome.{Effect, outcome_if, Does}
 use Rattle.outcome.specs.Reply.{listing_of}
 use Rattle.lent_lists.specs.Lists.{keys_in}
-use Rattle.printing.specs.Given.{most_keys, most_owners, KeysFit, OwnersFit}
+use Rattle.printing.specs.Given.{most_keys, most_owners, listing_with, KeysFit, OwnersFit}
 use Rattle.printing.proofs.KeyLists.{length-keys}
 
 -- what a call leaves, by whether it is carried out
@@ -70,8 +70,13 @@ module _ {a : Ask} {b : List ℕ} {e : Effect} (d : Does (On a) b e) where
     length-keys n v,
   )
 
-pub listing-fits : {a : StdResult ℕ Refusal} {u : Buffer} {n : ℕ} → a ≡ Ok n → KeysFit (listing_of a u) u → (n ≤ most_keys) × (key_bytes * n ≤ length u)
-listing-fits {a} {u} {n} e f =
-    let k : length (answer_bytes (listing_of a u)) ≡ key_bytes * n =
-    ap (λ (x : StdResult ℕ Refusal). length (answer_bytes (listing_of x u))) e ∙ length-keys_answer (keys_in n u) ∙ ap (◌*◌ key_bytes) (length-keys n u) in
+pub listing-fits : {E : Type 0} {a : StdResult ℕ E} {u : Buffer} {n : ℕ} → a ≡ Ok n → KeysFit (listing_with 0 a u) u → (n ≤ most_keys) × (key_bytes * n ≤ length u)
+listing-fits {E} {a} {u} {n} e f =
+    let k : length (answer_bytes (listing_with 0 a u)) ≡ key_bytes * n =
+    ap (λ (x : StdResult ℕ E). length (answer_bytes (listing_with 0 x u))) e ∙ length-keys_answer (keys_in n u) ∙ ap (◌*◌ key_bytes) (length-keys n u) in
     (omega (arith, f.long, f.fits, k), omega (arith, f.fits, k))
+
+-- of the answer of a public call
+pub listing_asked : (a : StdResult ℕ Refusal) (u : Buffer) → KeysFit (listing_of a u) u → KeysFit (listing_with 0 a u) u
+listing_asked (Ok n) u f = f
+listing_asked (Err e) u f = record { long = f.long; fits = f.fits }

@@ -1,23 +1,25 @@
 -- Answers as text.
 use Prim.Native.Nat.{ℕ, ◌+◌, ◌≤◌}
-use mathlib.Core.Path.{◌≡◌, ap, subst}
+use mathlib.Core.Path.{◌≡◌, refl, sym, ap, subst}
 use mathlib.Core.List.{List, [], ◌∷◌, append_assoc}
 use native.Mathlib.Omega.{arith}
 use lib.ListN.{length}
 use Rattle.ident.specs.Number.{Key}
 use Rattle.machine.specs.Call.{Buffer, Ask, Sum, Call, Open, On}
 use Rattle.machine.specs.Step.{Reply, Refused, Number, Keys, Summed}
-use Rattle.std.specs.Prelude.{Result}
+use Rattle.std.specs.Prelude.{Result, Ok, Err}
 use Rattle.outcome.specs.declared.refusal.Refusal.{Refusal}
 use Rattle.outcome.specs.declared.Departure.{Departure}
-use Rattle.outcome.specs.Reply.{listing_of, departure_of}
+use Rattle.outcome.specs.Refusals.{number_of}
+use Rattle.outcome.specs.Reply.{reply_of, listing_of, departure_of}
+use Rattle.lent_lists.specs.Lists.{keys_in}
 use Rattle.outcome.specs.Outcome.{Effect, Does}
 use Rattle.machine.specs.Text.{decimal_digits, decimal, joined}
 use Rattle.lines.specs.Text.{Wrote}
 use Rattle.machine.proofs.Numerals.{length-numeral}
 use Rattle.lines.proofs.Writing.{wrote_more}
 use Rattle.printing.specs.Replies.{refusal_text, listed, key_texts, reply_text}
-use Rattle.printing.specs.Given.{answer_room, Printed, ReplyPrinted, Carried}
+use Rattle.printing.specs.Given.{answer_room, Printed, ReplyPrinted, NumberPrinted, ListingPrinted, Carried}
 
 -- where a number's text ends
 pub decimal_end : {s s' : List ℕ} {a r : ℕ} (n : ℕ) → Wrote s s' a (decimal n) r → r ≤ a + decimal_digits
@@ -27,24 +29,20 @@ module _ {s : List ℕ} (room : answer_room ≤ length s) where
   pub printed-refusal : {s₁ s₂ : List ℕ} {e r : ℕ} (n : ℕ) → Wrote s s₁ 0 (110 ∷ 111 ∷ 44 ∷ []) e → Wrote s₁ s₂ e (decimal n) r → Printed s s₂ (refusal_text n) r
   printed-refusal n p q = record { wrote = wrote_more p q (omega (arith, p.next, length-numeral 10 decimal_digits n)); room = omega (arith, p.next, decimal_end n q) }
 
-  pub printed-figures : {s₁ s₂ s₃ s₄ s₅ s₆ s₇ : List ℕ} {e₁ e₂ e₃ e₄ e₅ e₆ r : ℕ} (h f g p : ℕ) → Wrote s s₁ 0 (decimal h) e₁ → Wrote s₁ s₂ e₁ (44 ∷ []) e₂ → Wrote s₂ s₃ e₂ (decimal f) e₃
-      → Wrote s₃ s₄ e₃ (44 ∷ []) e₄ → Wrote s₄ s₅ e₄ (decimal g) e₅ → Wrote s₅ s₆ e₅ (44 ∷ []) e₆ → Wrote s₆ s₇ e₆ (decimal p) r
-      → Printed s s₇ (joined (decimal h ∷ decimal f ∷ decimal g ∷ decimal p ∷ [])) r
+  pub printed-figures : {s₁ s₂ s₃ s₄ : List ℕ} {e₁ e₂ e₃ r : ℕ} (h f g p : ℕ) → Wrote s s₁ 0 (decimal h) e₁ → Wrote s₁ s₂ e₁ (44 ∷ decimal f) e₂ → Wrote s₂ s₃ e₂ (44 ∷ decimal g) e₃
+      → Wrote s₃ s₄ e₃ (44 ∷ decimal p) r → Printed s s₄ (joined (decimal h ∷ decimal f ∷ decimal g ∷ decimal p ∷ [])) r
   unfolding joined
-  printed-figures h f g p w₁ w₂ w₃ w₄ w₅ w₆ w₇ =
-      let b₁ = decimal_end h w₁ in
+  printed-figures h f g p w₁ w₂ w₃ w₄ =
+      let b₁ = length-numeral 10 decimal_digits h in
+      let b₂ = length-numeral 10 decimal_digits f in
+      let b₃ = length-numeral 10 decimal_digits g in
+      let b₄ = length-numeral 10 decimal_digits p in
+      let n₁ = w₁.next in
       let n₂ = w₂.next in
-      let b₃ = decimal_end f w₃ in
+      let n₃ = w₃.next in
       let n₄ = w₄.next in
-      let b₅ = decimal_end g w₅ in
-      let n₆ = w₆.next in
-      let b₇ = decimal_end p w₇ in
-      let l₃ = w₃.next in
-      let l₅ = w₅.next in
-      let l₇ = w₇.next in
-      let w = wrote_more (wrote_more (wrote_more (wrote_more w₁ w₂ (omega arith)) w₃ (omega arith)) w₄ (omega arith)) w₅ (omega arith) in
-      let v = wrote_more (wrote_more w w₆ (omega arith)) w₇ (omega arith) in
-      record { wrote = simp append_assoc at v; room = omega arith }
+      let w = wrote_more (wrote_more (wrote_more w₁ w₂ (omega arith)) w₃ (omega arith)) w₄ (omega arith) in
+      record { wrote = simp append_assoc at w; room = omega arith }
 
 -- ---- a reply of the tracker
 
@@ -80,6 +78,31 @@ module _ {out out' : List ℕ} {r : ℕ} {y : Reply} where
   unfolding reply_text
   keys-printed ks e p = record { text = λ a. rw e p }
 
+-- ---- an answer whose refusal has any number
+
+module _ {E : Type 0} {numbered : E → ℕ → Type 0} {a : Result ℕ E} {out out' : List ℕ} {r : ℕ} where
+  pub number-refused : {e : E} (k : ℕ) → a ≡ Err e → numbered e k → Printed out out' (refusal_text k) r → NumberPrinted numbered a out out' r
+  number-refused k g h p = subst (λ (x : Result ℕ E). NumberPrinted numbered x out out' r) (sym g) (record { number = k; given = h; text = refused-printed refl p })
+
+  pub number-said : {n : ℕ} → a ≡ Ok n → Wrote out out' 0 (decimal n) r → NumberPrinted numbered a out out' r
+  number-said g w = subst (λ (x : Result ℕ E). NumberPrinted numbered x out out' r) (sym g) (record { number = 0; given = tt; text = number-printed refl w })
+
+  pub listing-refused : {e : E} (k : ℕ) (u : Buffer) → a ≡ Err e → numbered e k → Printed out out' (refusal_text k) r → ListingPrinted numbered a u out out' r
+  listing-refused k u g h p = subst (λ (x : Result ℕ E). ListingPrinted numbered x u out out' r) (sym g) (record { number = k; given = h; text = refused-printed refl p })
+
+  pub listing-said : {n : ℕ} (u : Buffer) → a ≡ Ok n → Printed out out' (listed (key_texts (keys_in n u))) r → ListingPrinted numbered a u out out' r
+  listing-said {n} u g p =
+      subst (λ (x : Result ℕ E). ListingPrinted numbered x u out out' r) (sym g) (record { number = 0; given = tt; text = keys-printed (keys_in n u) refl p })
+
+-- of a public call
+pub number-told : (a : Result ℕ Refusal) {out out' : List ℕ} {r : ℕ} → NumberPrinted (λ e k. k ≡ number_of e) a out out' r → ReplyPrinted out out' (reply_of a) r
+number-told (Ok n) p = p.text
+number-told (Err e) {out} {out'} {r} p = subst (λ (k : ℕ). ReplyPrinted out out' (Refused k) r) p.given p.text
+
+pub listing-told : (a : Result ℕ Refusal) (u : Buffer) {out out' : List ℕ} {r : ℕ} → ListingPrinted (λ e k. k ≡ number_of e) a u out out' r → ReplyPrinted out out' (listing_of a u) r
+listing-told (Ok n) u p = p.text
+listing-told (Err e) u {out} {out'} {r} p = subst (λ (k : ℕ). ReplyPrinted out out' (Refused k) r) p.given p.text
+
 -- the same call, as the code has it and as the line has it
 pub carried_is : {a a' : Ask} {b b' out out' : List ℕ} {r : ℕ} → a ≡ a' → Carried (On a) b b' out out' r → Carried (On a') b b' out out' r
 carried_is {a} {a'} {b} {b'} {out} {out'} {r} g c = subst (λ (z : Ask). Carried (On z) b b' out out' r) g c
@@ -88,8 +111,5 @@ pub does_is : {a a' : Ask} {b : List ℕ} {e : Effect} → a ≡ a' → Does (On
 does_is {a} {a'} {b} {e} g d = subst (λ (z : Ask). Does (On z) b e) g d
 
 -- the answer that the code has taken apart
-pub listing_same : {x y : Result ℕ Refusal} (u : Buffer) → x ≡ y → listing_of x u ≡ listing_of y u
-listing_same u e = ap (λ (x : Result ℕ Refusal). listing_of x u) e
-
 pub departure_same : {x y : Result Departure Refusal} (u : Buffer) → x ≡ y → departure_of x u ≡ departure_of y u
 departure_same u e = ap (λ (x : Result Departure Refusal). departure_of x u) e

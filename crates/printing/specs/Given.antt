@@ -1,8 +1,9 @@
 -- What the contracts of the texts say, and of a call that is carried out with its reply as text.
-use Rattle.std.specs.Prelude.{ℕ, ◌+◌, ◌*◌, ◌<◌, ◌≤◌, ◌≡◌, List, [], ◌∷◌, ◌++◌, eqb, length, if◌then◌else◌}
+use Rattle.std.specs.Prelude.{ℕ, ◌+◌, ◌*◌, ◌<◌, ◌≤◌, ◌≡◌, List, [], ◌∷◌, ◌++◌, length, Result, Ok, Err}
 use Rattle.machine.specs.State.{Candidate, Entry}
 use Rattle.machine.specs.Call.{Buffer, key_bytes, owner_bytes, Ask, Call, On}
-use Rattle.machine.specs.Step.{Reply, answer_bytes}
+use Rattle.machine.specs.Step.{Reply, Refused, Number, answer_bytes}
+use Rattle.outcome.specs.Reply.{keys_listed}
 use Rattle.outcome.specs.Outcome.{Effect, Does}
 use Rattle.machine.specs.Text.{decimal_digits, decimal, hash_digits, bool_text, key_text, item_text}
 use Rattle.lines.specs.Text.{Wrote}
@@ -31,10 +32,6 @@ abbrev pub most_owners : ℕ
 most_owners = 1024
 
 -- ---- keys
-
--- the i-th text of a list: behind a comma if it is not the first
-abbrev pub next_text : ℕ → List ℕ → List ℕ
-next_text i t = if eqb i 0 then t else 44 ∷ t
 
 -- texts that follow others: each behind a comma
 unfoldable pub behind : List (List ℕ) → List ℕ
@@ -102,6 +99,34 @@ pub record Printed (out out' : List ℕ) (text : List ℕ) (r : ℕ) : Type 0 wh
 -- the reply of a call that is no opening
 pub record ReplyPrinted (out out' : List ℕ) (y : Reply) (r : ℕ) : Type 0 where
   pub text : (a : Ask) → Printed out out' (reply_text (On a) y) r
+
+-- ---- answers whose refusals have any numbers
+
+-- k is the number given for the refusal of an answer that is one
+abbrev pub RefusedWith : {T E : Type 0} → (E → ℕ → Type 0) → Result T E → ℕ → Type 0
+RefusedWith numbered (Ok x) k = Unit {0}
+RefusedWith numbered (Err e) k = numbered e k
+
+-- the reply of an answer that is a number or a refusal with the number k, and of one that lists keys (those of public calls: `reply_of` and `listing_of`)
+abbrev pub number_with : {E : Type 0} → ℕ → Result ℕ E → Reply
+number_with k (Ok n) = Number n
+number_with k (Err e) = Refused k
+
+abbrev pub listing_with : {E : Type 0} → ℕ → Result ℕ E → Buffer → Reply
+listing_with k (Ok n) u = keys_listed n u
+listing_with k (Err e) u = Refused k
+
+pub record NumberPrinted {E : Type 0} (numbered : E → ℕ → Type 0) (a : Result ℕ E) (out out' : List ℕ) (r : ℕ) : Type 0 where
+  pub number : ℕ
+  pub given : RefusedWith numbered a number
+  pub text : ReplyPrinted out out' (number_with number a) r
+
+pub record ListingPrinted {E : Type 0} (numbered : E → ℕ → Type 0) (a : Result ℕ E) (u : Buffer) (out out' : List ℕ) (r : ℕ) : Type 0 where
+  pub number : ℕ
+  pub given : RefusedWith numbered a number
+  pub text : ReplyPrinted out out' (listing_with number a u) r
+
+-- ---- calls
 
 -- the call c on a store of the bytes b, which leaves b', and its reply as text
 pub record Carried (c : Call) (b b' out out' : List ℕ) (r : ℕ) : Type 0 where

@@ -16,9 +16,7 @@ pub fn put_key(out: &mut [u8], at: usize, k: ident::Key) -> usize
     requires { at + key_room ≤ length out.old }
     ensures { Wrote out.old out.new at (key_text (key_num k)) result }
 {
-    let kind = k.kind;
-    let hash = k.hash;
-    lines::write::put_key(out, at, kind, regions::Quad::from(hash))
+    lines::write::put_key(out, at, k.kind, regions::Quad::from(k.hash))
 }
 
 fn put_kind(out: &mut [u8], at: usize, k: ident::ItemKind) -> usize
@@ -37,14 +35,12 @@ fn put_kind(out: &mut [u8], at: usize, k: ident::ItemKind) -> usize
     }
 }
 
-fn put_item(out: &mut [u8], at: usize, i: ident::Item) -> usize
+fn put_item(out: &mut [u8], at: usize, item: ident::Item) -> usize
     requires { at + item_room ≤ length out.old }
-    ensures { Wrote out.old out.new at (item_text (item_num i)) result }
+    ensures { Wrote out.old out.new at (item_text (item_num item)) result }
 {
-    let kind = i.kind;
-    let hash = i.hash;
-    let e = put_kind(out, at, kind);
-    lines::write::put_hash(out, e, regions::Quad::from(hash))
+    let e = put_kind(out, at, item.kind);
+    lines::write::put_hash(out, e, regions::Quad::from(item.hash))
 }
 
 // Behind a comma.
@@ -72,10 +68,9 @@ fn put_candidate(out: &mut [u8], at: usize, c: requests::Candidate) -> usize
     requires { at + candidate_room ≤ length out.old }
     ensures { Wrote out.old out.new at (behind (candidate_texts (candidate_of c))) result }
 {
-    let item = c.item;
     let e = put_number(out, at, c.connection);
     let from = put_bytes(out, e, b",");
-    let e = put_item(out, from, item);
+    let e = put_item(out, from, c.item);
     let e = put_number(out, e, c.ready);
     let e = put_bool(out, e, c.preferred);
     put_number(out, e, c.priority)

@@ -28,7 +28,7 @@ returns-in-Err c = keeps-call refl
     c.args.v.clock u)
     c.answer_buffer-answer.ensures)
     c.disconnected.ensures) refl
-    (reply-refused _ (departure_same _ c.in-Err.is) c.refusal.ensures))
+    (reply-refused _ (departure_same _ c.in-Err.is) (rw (← c.from.ensures) c.refusal.ensures)))
 
 pub returns-in-Ok : goal.returns-in-Ok
 returns-in-Ok c = keeps-call refl (leaving_unplanned (values_of

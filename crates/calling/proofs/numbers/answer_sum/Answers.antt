@@ -7,7 +7,7 @@ use Rattle.calling.proofs.numbers.answer_sum.Goals as goal
 
 pub returns-in-Err : goal.returns-in-Err
 returns-in-Err c = keeps-call refl sum_unplanned (carried _ c.sum.ensures refl
-    (reply-refused _ (ap figures_of c.in-Err.is) c.refusal.ensures))
+    (reply-refused _ (ap figures_of c.in-Err.is) (rw (← c.from.ensures) c.refusal.ensures)))
 
 pub returns-in-Ok : goal.returns-in-Ok
 returns-in-Ok c = keeps-call refl sum_unplanned (carried _ c.sum.ensures refl

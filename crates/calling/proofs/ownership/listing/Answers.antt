@@ -19,7 +19,7 @@ put_owners-requires c =
 pub returns-in-Err : goal.returns-in-Err
 returns-in-Err c =
     refused-printed (ap (λ (x : Result ℕ Refusal). owners_of (hashes_in c.args.hashes.now) x c.args.answer.now) c.in-Err.is)
-    c.refusal.ensures
+    (rw (← c.from.ensures) c.refusal.ensures)
 
 pub returns-in-Ok : goal.returns-in-Ok
 returns-in-Ok c =

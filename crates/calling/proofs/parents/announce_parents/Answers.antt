@@ -3,14 +3,14 @@ use mathlib.Core.Path.{refl, ap}
 use native.Mathlib.Omega.{arith}
 use Rattle.machine.specs.Call.{Buffer, AnnounceParents}
 use Rattle.lent_lists.specs.Lists.{hashes_in}
-use Rattle.printing.proofs.Printing.{carried, does_is}
-use Rattle.printing.proofs.Fitting.{keys-fit}
+use Rattle.printing.proofs.Printing.{listing-told, carried, does_is}
+use Rattle.printing.proofs.Fitting.{keys-fit, listing_asked}
 use Rattle.calling.proofs.parents.announce_parents.Goals as goal
 
 pub listing-requires : goal.listing-requires
 listing-requires c =
     let d = c.announce_parents-a in
-    (c.requires, keys-fit d.ensures (omega (arith, d.auto)))
+    (c.requires, listing_asked d.result _ (keys-fit d.ensures (omega (arith, d.auto))))
 
 pub returns : goal.returns
 returns c =
@@ -18,4 +18,4 @@ returns c =
     (does_is (ap (λ (u : Buffer). AnnounceParents c.args.connection (hashes_in c.args.parents.now) c.args.clock u)
     c.answer_buffer-answer.ensures)
     c.announce_parents-a.ensures) refl
-    (c.listing.ensures.text _)
+    ((listing-told c.announce_parents-a.result _ c.listing.ensures).text _)

@@ -9,4 +9,4 @@ pub returns-in-Ok : goal.returns-in-Ok
 returns-in-Ok c = rw (← c.lists.view_is) (part_named c.in-Ok.connection.positive c.in-Ok.ensures.0 c.in-Ok.ensures.1 c.put_part.ensures)
 
 pub returns-in-Err : goal.returns-in-Err
-returns-in-Err c = part_refused _ c.in-Err.ensures c.refusal.ensures
+returns-in-Err c = part_refused _ c.in-Err.ensures (rw (← c.from.ensures) c.refusal.ensures)

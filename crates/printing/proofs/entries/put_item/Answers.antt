@@ -6,11 +6,11 @@ use Rattle.printing.proofs.entries.put_item.Goals as goal
 pub put_hash-requires : goal.put_hash-requires
 put_hash-requires c = omega (
   arith,
-  kind_end c.args.i.kind c.put_kind-e.ensures,
+  kind_end c.args.item.kind c.put_kind-e.ensures,
   c.put_kind-e.auto,
 )
 
 pub returns : goal.returns
-returns c = wrote-item c.args.i.kind
+returns c = wrote-item c.args.item.kind
     c.requires c.put_kind-e.ensures
     c.from.ensures c.put_hash.ensures

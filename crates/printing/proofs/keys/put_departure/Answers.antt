@@ -6,7 +6,7 @@ use Rattle.printing.proofs.keys.put_departure.Goals as goal
 
 pub put_behind-requires : goal.put_behind-requires
 put_behind-requires c = let d = decimal_end c.args.own c.put_decimal-at.ensures in
-    (omega (arith, d, c.put_decimal-at.auto), c.requires.2)
+    (omega (arith, d, c.put_decimal-at.auto), omega (arith, c.requires.2))
 
 pub returns : goal.returns
 returns c = departure_wrote c.requires.0

@@ -3,6 +3,4 @@ use Rattle.printing.proofs.Printing.{printed-refusal}
 use Rattle.printing.proofs.numbers.refusal.Goals as goal
 
 pub returns : goal.returns
-returns c = printed-refusal c.requires
-    _ c.put_bytes-e.ensures
-    (rw (← c.from.ensures) c.put_decimal.ensures)
+returns c = printed-refusal c.requires c.args.n c.put_bytes-e.ensures c.put_decimal.ensures

@@ -7,5 +7,5 @@ use Rattle.store.proofs.Bounds.{ascend-sorted}
 use Rattle.public_plans.specs.Parts.{connections_in}
 use Rattle.keeping.proofs.kept.Lists.none.Goals as goal
 
-pub invariant_of-result : goal.invariant_of-result
-invariant_of-result c = subst (λ (x : List Entry). Sorted (connections_in x)) (sym c.none-3.ensures) (ascend-sorted 0 [] tt)
+pub of-requires : goal.of-requires
+of-requires c = subst (λ (x : List Entry). Sorted (connections_in x)) (sym c.none-3.ensures) (ascend-sorted 0 [] tt)
