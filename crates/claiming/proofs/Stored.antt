@@ -4,14 +4,14 @@ use mathlib.Core.Path.{◌≡◌, refl, sym, ap, ◌∙◌}
 use mathlib.Core.List.{List, [], ◌∷◌, ◌++◌, append_assoc, append-nil}
 use native.Mathlib.Omega.{arith}
 use lib.ListN.{length, length-append}
-use Rattle.ident.specs.Number.{Key, Item, type_of, kind_number}
+use Rattle.ident.specs.Number.{Item, type_of}
 use Rattle.words.specs.Words.{digits, bytes_of, splice, Put}
 use Rattle.words.proofs.Digits.{length_digits}
 use Rattle.words.proofs.Words.{length-bytes}
 use Rattle.words.proofs.Splice.{splice_more}
 use Rattle.machine.specs.State.{Entry}
 use Rattle.machine.specs.Table.{one}
-use Rattle.machine.specs.Call.{key_bytes, entry_bytes}
+use Rattle.machine.specs.Call.{entry_bytes}
 use Rattle.machine.specs.Step.{key_answer, entry_answer, entries_answer, written}
 use Rattle.machine.proofs.AnswerLengths.{length-key_answer, length-entry_answer, length-entries_answer}
 use Rattle.claiming.specs.Claiming.{item_answer}
@@ -23,14 +23,6 @@ behind u a b x y e f p q = f ∙ ap (λ (s : List ℕ). splice s b y) e ∙ spli
 
 -- ---- a key, a connection with an item, three words
 
-pub key-put : {u u₁ u₂ : List ℕ} (w v : ℕ) (k : Key) → 8 * w + key_bytes ≤ length u → v ≡ kind_number k.kind → Put u u₁ w v → u₂ ≡ splice u₁ (w * 8 + 8) (digits 256 32 k.hash) → u₂ ≡ splice u
-    (8 * w) (key_answer k)
-unfolding bytes_of
-key-put {u} w v k h e p q =
-    let l = length_digits 256 8 v in
-    let m = length_digits 256 32 k.hash in
-    behind u (8 * w) (w * 8 + 8) (digits 256 8 v) (digits 256 32 k.hash) p.bytes q (omega arith) (omega arith) ∙ rw (e, append-nil) refl
-
 two_put : {u u₁ u₂ : List ℕ} (w x y : ℕ) → 8 * w + 16 ≤ length u → Put u u₁ w x → Put u₁ u₂ (w + 1) y → u₂ ≡ splice u (8 * w) (bytes_of (x ∷ y ∷ []))
 unfolding bytes_of
 two_put {u} w x y h p q =
@@ -41,12 +33,15 @@ two_put {u} w x y h p q =
 length_two : (x y : ℕ) → length (bytes_of (x ∷ y ∷ [])) ≡ 16
 length_two x y = length-bytes (x ∷ y ∷ [])
 
-pub item-put : {u u₁ u₂ u₃ : List ℕ} (w n t : ℕ) (i : Item) → 8 * w + 48 ≤ length u → t ≡ type_of i.kind → Put u u₁ w n → Put u₁ u₂ (w + 1) t → u₃ ≡ splice u₂ (w * 8 + 16)
-    (digits 256 32 i.hash) → u₃ ≡ splice u (8 * w) (item_answer n i)
-item-put {u} w n t i h e p q r =
-    let l = length_two n t in
-    let m = length_digits 256 32 i.hash in
-    behind u (8 * w) (w * 8 + 16) (bytes_of (n ∷ t ∷ [])) (digits 256 32 i.hash) (two_put w n t (omega arith) p q) r (omega arith) (omega arith) ∙ rw e refl
+pub item-put : {u u₁ u₂ : List ℕ} (w n t : ℕ) (i : Item) → 8 * w + 48 ≤ length u → t ≡ type_of i.kind → Put u u₁ w n
+    → u₂ ≡ splice u₁ (8 * (w + 1)) (bytes_of (t ∷ []) ++ digits 256 32 i.hash) → u₂ ≡ splice u (8 * w) (item_answer n i)
+unfolding bytes_of
+item-put {u} w n t i h e p r =
+    let l = length_digits 256 8 n in
+    let m = length-append (bytes_of (t ∷ [])) (digits 256 32 i.hash) in
+    behind u (8 * w) (8 * (w + 1)) (digits 256 8 n) (bytes_of (t ∷ []) ++ digits 256 32 i.hash) p.bytes r (omega arith)
+    (omega (arith, m, length-bytes (t ∷ []), length_digits 256 32 i.hash))
+    ∙ rw (← append_assoc (digits 256 8 n) (bytes_of (t ∷ [])) (digits 256 32 i.hash), e) refl
 
 pub three-put : {u u₁ u₂ u₃ : List ℕ} (w x y z : ℕ) → 8 * w + 24 ≤ length u → Put u u₁ w x → Put u₁ u₂ (w + 1) y → Put u₂ u₃ (w + 2) z → u₃ ≡ splice u (8 * w) (bytes_of (x ∷ y ∷ z ∷ []))
 three-put {u} w x y z h p q r =

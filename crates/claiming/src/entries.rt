@@ -1,7 +1,7 @@
 // Entries in an answer buffer, 112 bytes each (docs/DECISIONS.md, 4), and the claim of one entry that writes it there.
 //
 // An entry's fields are words of lent bytes, laid out for the C interface: u or b is the buffer, w a field's place in it, n an entry's.
-// Each field goes through `words::put` and `words::get`, which are `to_le_bytes` and `from_le_bytes` over a part of the buffer.
+// A key and an item go through `lent_lists::put_record` and `record_at`, any other field through `words::put` and `words::get`.
 ghost use Rattle.std.specs.Prelude.{◌≡◌, [], ◌∷◌, ◌+◌, ◌*◌, ◌/◌, ◌%◌, ◌≤◌, length};
 ghost use Rattle.ident.specs.Number.{item_kind_of, kind_is, kind_number};
 ghost use Rattle.ident.specs.Words.{key_num, item_num};
@@ -29,13 +29,12 @@ const PREFERRED: usize = 12;
 
 const PRIORITY: usize = 13;
 
-// Stores the key k from the word w on: its kind, and its hash. (At a word of an entry, where those of lent_lists go by the index among keys.)
+// Stores the key k from the word w on.
 fn put_key(u: &mut [u8], w: usize, k: ident::Key)
     requires { 8 * w + key_bytes ≤ length u.old }
     ensures { u.new ≡ splice u.old (8 * w) (key_answer (key_num k)) }
 {
-    words::put(u, w, u64::from(k.kind));
-    ident::put_hash(u, w * 8 + 8, k.hash);
+    lent_lists::put_record(u, w, u64::from(k.kind), k.hash);
 }
 
 // Stores a connection and an item from the word w on.
@@ -44,8 +43,7 @@ fn put_item(u: &mut [u8], w: usize, connection: u64, item: ident::Item)
     ensures { u.new ≡ splice u.old (8 * w) (item_answer connection (item_num item)) }
 {
     words::put(u, w, connection);
-    words::put(u, w + 1, u32::from(item.kind) as u64);
-    ident::put_hash(u, w * 8 + 16, item.hash);
+    lent_lists::put_record(u, w + 1, u64::from(u32::from(item.kind)), item.hash);
 }
 
 // Stores three words from the word w on.
@@ -95,10 +93,9 @@ pub fn key_at(b: &[u8], w: usize) -> ident::Key
     requires { 8 * w + key_bytes ≤ length b.now }
     ensures { key_num result ≡ key_from b.now w }
 {
-    ident::Key {
-        kind: ident::Kind::from(words::get(b, w)),
-        hash: ident::hash_at(b, w * 8 + 8),
-    }
+    let (kind, hash) = lent_lists::record_at(b, w);
+    let kind = ident::Kind::from(kind);
+    ident::Key { kind, hash }
 }
 
 // The item from the word w on.
@@ -106,10 +103,9 @@ fn item_at(b: &[u8], w: usize) -> ident::Item
     requires { 8 * w + key_bytes ≤ length b.now }
     ensures { item_num result ≡ item_from b.now w }
 {
-    ident::Item {
-        kind: item_kind(words::get(b, w)),
-        hash: ident::hash_at(b, w * 8 + 8),
-    }
+    let (kind, hash) = lent_lists::record_at(b, w);
+    let kind = item_kind(kind);
+    ident::Item { kind, hash }
 }
 
 // How many entries the bytes hold.

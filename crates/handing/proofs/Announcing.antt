@@ -1,5 +1,5 @@
 -- Parents announced for each of some connections, their keys put in order as they come.
-use Prim.Native.Nat.{ℕ, zero, suc, ◌+◌, ◌≤◌, ◌<◌}
+use Prim.Native.Nat.{ℕ, zero, suc, ◌+◌, ◌*◌, ◌≤◌, ◌<◌}
 use mathlib.Core.Path.{◌≡◌, refl, sym, ap, subst, ◌∙◌}
 use mathlib.Core.List.{List, [], ◌∷◌, ◌++◌, append_assoc, append-nil}
 use native.Mathlib.Numerals.{add-one}
@@ -7,7 +7,7 @@ use native.Mathlib.Omega.{arith}
 use lib.ListN.{length, take, drop, get_or, take-append-drop}
 use lib.Seq.{take-suc, take_all}
 use Rattle.ident.specs.Number.{Key}
-use Rattle.machine.specs.Limits.{Limits, word}
+use Rattle.machine.specs.Limits.{Limits, word, max_parents}
 use Rattle.machine.specs.State.{State, Table, limits_of, on_table}
 use Rattle.machine.specs.Fail.{announce_parents}
 use Rattle.machine.specs.Sound.{Sound, Bounded}
@@ -20,8 +20,10 @@ use Rattle.machine.proofs.Plan.{parents-keys as typed-parents}
 use Rattle.store.specs.Image.{image, Writes}
 use Rattle.store.specs.Shown.{Kept}
 use Rattle.store.proofs.FlatRead.{image_injective}
-use Rattle.lent_lists.specs.Lists.{keys_in}
-use Rattle.lent_lists.proofs.KeysBack.{keys_back}
+use Rattle.machine.specs.Call.{key_bytes}
+use Rattle.machine.proofs.AnswerLengths.{length-announce_parents}
+use Rattle.lent_lists.specs.Lists.{keys_in, given_keys}
+use Rattle.lent_lists.proofs.KeysBack.{keys_back, front-keys}
 use Rattle.announcing.specs.Answers.{KeysListed}
 use Rattle.merging.specs.Merges.{InOrder, Takes, Merged}
 use Rattle.handing.specs.Hands.{Peers, announce_for, Roomy, KeysMerged}
@@ -55,11 +57,16 @@ module _ (n now : ℕ) (hs : List ℕ) (f : FewHashes hs) {b b₁ v v₁ : List 
       let ks = (announce_parents (limits_of st) n now hs st.table).keys in
       ap (λ (x : List ℕ). keys_in c x) (l.keys st s w) ∙ ap (λ (j : ℕ). keys_in j (written (keys_answer ks) v)) (l.count st s w) ∙ keys_back ks v (typed-parents (limits_of st) n now hs st.table f)
 
-  pub merge-room : (u : List ℕ) (q : ℕ) → Kept b → Roomy b u q (λ m t. announce_parents m n now hs t) → Takes (keys_in c v₁) u q
-  merge-room u q k r = rw (keys-are k.state k.sound k.writes) (r k.state k.sound k.writes)
+  pub fits_parents : Kept b → length hs ≤ max_parents → key_bytes * max_parents ≤ length v₁ → key_bytes * c ≤ length v₁
+  fits_parents k h g = omega (arith, l.count k.state k.sound k.writes, length-announce_parents (limits_of k.state) n now hs k.state.table)
 
-  pub one_merged : {u u₁ : List ℕ} {q r : ℕ} → Merged (keys_in c v₁) u u₁ q r → KeysMerged b b₁ u u₁ q r (λ m t. announce_parents m n now hs t)
-  one_merged m = record { merged = λ st s w. rw (keys-are st s w) at m; table = l.table }
+  -- the front of the list that the call wrote
+  module _ (h : key_bytes * c ≤ length v₁) where
+    pub merge-room : (u : List ℕ) (q : ℕ) → Kept b → Roomy b u q (λ m t. announce_parents m n now hs t) → Takes (given_keys (take (c * key_bytes) v₁)) u q
+    merge-room u q k r = rw (front-keys c v₁ h, keys-are k.state k.sound k.writes) (r k.state k.sound k.writes)
+
+    pub one_merged : {u u₁ : List ℕ} {q r : ℕ} → Merged (given_keys (take (c * key_bytes) v₁)) u u₁ q r → KeysMerged b b₁ u u₁ q r (λ m t. announce_parents m n now hs t)
+    one_merged m = record { merged = λ st s w. rw (front-keys c v₁ h, keys-are st s w) at m; table = l.table }
 
 -- ---- one connection more
 

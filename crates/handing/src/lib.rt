@@ -21,7 +21,7 @@ ghost use Rattle.merging.specs.Merges.{InOrder};
 ghost use Rattle.handing.specs.Hands.{conns_of, Peers, announce_for, Roomy, KeysMerged, Silent, Waits};
 
 use ident::connection::Connection;
-use lent_lists::{KEYS, LIST};
+use lent_lists::{KEY, KEYS, LIST};
 use machine::limits::MAX_ALTERNATES;
 use store::rows::Window;
 
@@ -59,7 +59,7 @@ fn announce_for(
 {
     let mut keys = [0; KEYS];
     let kept = announcing::parents::announce_parents(s, n, clock, list, &mut keys);
-    merging::merge(u, c, &keys, kept)
+    merging::merge(u, c, &keys[..kept * KEY])
 }
 
 // The same for each of some connections.

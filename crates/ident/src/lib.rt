@@ -26,7 +26,8 @@ pub enum Kind {
     Wtxid,
 }
 
-// 32 bytes as a number: word 3 is the most significant.
+// 32 bytes as a number: word 3 is the most significant. (No fields from the most significant down, which a derive would put in order, as a `regions::Quad` has them: `words` is a public
+// field, and another form would ask its readers to change.)
 #[derive(Clone, Copy, Debug, PartialEq, Eq)]
 pub struct Hash {
     pub words: [u64; 4],

@@ -2,7 +2,7 @@
 use Prim.Native.Nat.{ℕ, ◌+◌, ◌*◌, ◌≤◌, ◌<◌, ◌^◌}
 use mathlib.Core.Path.{◌≡◌, ap, ◌∙◌}
 use mathlib.Core.Bool.{true}
-use mathlib.Core.List.{List, [], ◌∷◌, ◌++◌}
+use mathlib.Core.List.{List, [], ◌∷◌, ◌++◌, append-nil}
 use native.Mathlib.Nat.{lt_of_lt_of_le}
 use native.Mathlib.Omega.{arith}
 use lib.Dec.{lit≤}
@@ -13,9 +13,8 @@ use Rattle.ident.specs.declared.ItemKind.{ItemKind}
 use Rattle.ident.specs.Number.{Key, Item, top, type_of, is_plain}
 use Rattle.ident.specs.Words.{hash_bytes}
 use Rattle.ident.proofs.TypeNumbers.{kind-type}
-use Rattle.words.specs.Words.{number, digits, recs, splice}
+use Rattle.words.specs.Words.{number, digits, recs, bytes_of, splice}
 use Rattle.words.proofs.Digits.{length_digits, number_digits}
-use Rattle.words.proofs.Splice.{splice_more}
 use Rattle.machine.specs.Call.{key_bytes}
 use Rattle.machine.specs.Step.{key_answer}
 use Rattle.machine.proofs.AnswerLengths.{length-key_answer}
@@ -54,27 +53,25 @@ item_read k h e t u =
     rw (take_at x y 8 n, drop_at x y 8 n, w, number_digits 256 (lit≤ tt) hash_bytes h u, lt-ltb (type_of k) type_top t)
     (ap (λ (z : ItemKind). record { kind = z; hash = h }) (kind-type k e))
 
+one_word : (w : ℕ) → bytes_of (w ∷ []) ≡ digits 256 8 w
+unfolding bytes_of
+one_word w = append-nil (digits 256 8 w)
+
 module _ (b : List ℕ) (i : ℕ) (k : ItemKind) (h : ℕ) (t : type_of k < type_top) (u : h < top) (r : item_bytes * i + item_bytes ≤ length b) where
   abbrev item-bytes : List ℕ
   item-bytes = digits 256 8 (type_of k) ++ digits 256 hash_bytes h
 
-  whole_item : splice (splice b (8 * (i * 5)) (digits 256 8 (type_of k))) (i * 40 + 8) (digits 256 hash_bytes h) ≡ splice b (item_bytes * i) item-bytes
-  whole_item =
-      let a : 8 * (i * 5) ≡ item_bytes * i = omega arith in
-      let c : i * 40 + 8 ≡ item_bytes * i + 8 = omega arith in
-      let l = length_digits 256 8 (type_of k) in
-      let m = length_digits 256 hash_bytes h in
-      rw (a, c) (splice_more b (item_bytes * i) (item_bytes * i + 8) (digits 256 8 (type_of k)) (digits 256 hash_bytes h) (omega arith) (omega arith))
+  at_item : 8 * (i * 5) ≡ item_bytes * i
+  at_item = omega arith
 
   length-item : length item-bytes ≡ item_bytes
   length-item = simp (length-append, length_digits)
 
-  pub item-put : {w g : ℕ} {b₁ b₂ : List ℕ} → w ≡ type_of k → g ≡ h → b₁ ≡ splice b (8 * (i * 5)) (digits 256 8 w) → b₂ ≡ splice b₁ (i * 40 + 8) (digits 256 hash_bytes g) → ItemPut b b₂ i k h
-  item-put x y p q = record {
+  pub item-put : {w g : ℕ} {b' : List ℕ} → w ≡ type_of k → g ≡ h → b' ≡ splice b (8 * (i * 5)) (bytes_of (w ∷ []) ++ digits 256 hash_bytes g) → ItemPut b b' i k h
+  item-put x y p = record {
     is = λ e. record {
-      is = rw (q, p, x, y) (
-          ap (λ (z : List ℕ). items_of (i + 1) z) whole_item
-          ∙ record-put item_bytes item_in i b item-bytes (omega arith) length-item
+      is = rw (p, x, y, one_word (type_of k), at_item) (
+          record-put item_bytes item_in i b item-bytes (omega arith) length-item
           ∙ ap (λ (z : Item). items_of i b ++ (z ∷ [])) (item_read k h e t u));
     };
   }

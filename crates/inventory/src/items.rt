@@ -28,8 +28,9 @@ pub fn put_item(items: &mut [u8], i: usize, item: Named<ident::ItemKind>)
     requires { item_bytes * i + item_bytes ≤ length items.old }
     ensures { ItemPut items.old items.new i item.kind (quad_number item.hash) }
 {
-    words::put(items, i * 5, u32::from(item.kind) as u64);
-    ident::put_hash(items, i * ITEM + 8, ident::Hash::from(item.hash));
+    let t = u64::from(u32::from(item.kind));
+    let h = ident::Hash::from(item.hash);
+    lent_lists::put_record(items, i * lent_lists::RECORD, t, h);
 }
 
 // An item of a list.

@@ -13,17 +13,23 @@ use Rattle.machine.specs.Call.{key_bytes}
 use Rattle.machine.specs.Step.{key_answer, keys_answer, written}
 use Rattle.machine.proofs.AnswerLengths.{length-key_answer, length-keys_answer}
 
--- a key is its kind as a word, and then its hash
-pub key-put : {u u₁ u₂ : List ℕ} (n v : ℕ) (k : Key) → key_bytes * n + key_bytes ≤ length u → v ≡ kind_number k.kind → Put u u₁ (n * 5) v → u₂ ≡ splice u₁ (n * 5 * 8 + 8) (digits 256 32 k.hash)
-    → u₂ ≡ splice u (key_bytes * n) (key_answer k)
+-- a word, and a hash behind it
+pub record-put : {u u₁ u₂ : List ℕ} (w v h : ℕ) → 8 * w + key_bytes ≤ length u → Put u u₁ w v → u₂ ≡ splice u₁ (w * 8 + 8) (digits 256 32 h)
+    → u₂ ≡ splice u (8 * w) (bytes_of (v ∷ []) ++ digits 256 32 h)
 unfolding bytes_of
-key-put {u} n v k h e p q =
+record-put {u} w v h l p q =
+    let m = length_digits 256 8 v in
+    let n = length_digits 256 32 h in
+    q ∙ ap (λ (s : List ℕ). splice s (w * 8 + 8) (digits 256 32 h)) p.bytes
+    ∙ splice_more u (8 * w) (w * 8 + 8) (digits 256 8 v) (digits 256 32 h) (omega arith) (omega arith)
+    ∙ rw append-nil
+
+-- a key is its kind as a word, and then its hash
+pub key-put : (u : List ℕ) {u' : List ℕ} (n v : ℕ) (k : Key) → v ≡ kind_number k.kind → u' ≡ splice u (8 * (n * 5)) (bytes_of (v ∷ []) ++ digits 256 32 k.hash)
+    → u' ≡ splice u (key_bytes * n) (key_answer k)
+key-put u n v k e p =
     let a : 8 * (n * 5) ≡ key_bytes * n = omega arith in
-    let l = length_digits 256 8 v in
-    let m = length_digits 256 32 k.hash in
-    q ∙ ap (λ (s : List ℕ). splice s (n * 5 * 8 + 8) (digits 256 32 k.hash)) p.bytes
-    ∙ splice_more u (8 * (n * 5)) (n * 5 * 8 + 8) (digits 256 8 v) (digits 256 32 k.hash) (omega arith) (omega arith)
-    ∙ rw (a, e, append-nil)
+    rw (a, e) at p
 
 pub keys-append : (ks js : List Key) → keys_answer (ks ++ js) ≡ keys_answer ks ++ keys_answer js
 unfolding keys_answer

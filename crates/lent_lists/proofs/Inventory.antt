@@ -40,18 +40,19 @@ drop-take (suc m) n [] = rw (suc-add, take-nil n)
 drop-take (suc m) n (x ∷ l) = rw suc-add (drop-take m n l)
 
 -- the item at an index, by its word and its hash
-pub item_is : (b : List ℕ) (i : ℕ) {k : ItemKind} {w h : ℕ} → i < length (items_in b) → w ≡ get_or (words b) (5 * i) 0 → k ≡ item_kind_in w
-    → h ≡ number 256 (take hash_bytes (drop (item_bytes * i + 8) b))
+pub item_is : (b : List ℕ) (i : ℕ) {k : ItemKind} {w h : ℕ} → i < length (items_in b) → w ≡ get_or (words b) (i * 5) 0 → k ≡ item_kind_in w
+    → h ≡ number 256 (take hash_bytes (drop (i * 5 * 8 + 8) b))
     → (d : Item) → record { kind = k; hash = h } ≡ get_or (items_in b) i d
 unfolding item_in items_in
 item_is b i {k} {w} {h} l e f g d =
     let n : i < length b / item_bytes = omega (arith, length-recs item_bytes item_in (length b / item_bytes) b) in
-    let x : 8 * (5 * i) ≡ item_bytes * i = omega arith in
-    let p : take 8 (drop (8 * (5 * i)) b) ≡ take 8 (take item_bytes (drop (item_bytes * i) b)) = rw x (sym (take-take 8 item_bytes (drop (item_bytes * i) b) (omega arith))) in
+    let x : 8 * (i * 5) ≡ item_bytes * i = omega arith in
+    let y : i * 5 * 8 + 8 ≡ item_bytes * i + 8 = omega arith in
+    let p : take 8 (drop (8 * (i * 5)) b) ≡ take 8 (take item_bytes (drop (item_bytes * i) b)) = rw x (sym (take-take 8 item_bytes (drop (item_bytes * i) b) (omega arith))) in
     let q : take hash_bytes (drop (item_bytes * i + 8) b) ≡ drop 8 (take item_bytes (drop (item_bytes * i) b)) = ap (take hash_bytes) (sym (drop-drop 8 (item_bytes * i) b)) ∙
     sym (drop-take 8 32 (drop (item_bytes * i) b)) in
-    let u : w ≡ number 256 (take 8 (take item_bytes (drop (item_bytes * i) b))) = e ∙ word_at b (5 * i) (omega arith) ∙ ap (number 256) p in
-    let v : h ≡ number 256 (drop 8 (take item_bytes (drop (item_bytes * i) b))) = g ∙ ap (number 256) q in
+    let u : w ≡ number 256 (take 8 (take item_bytes (drop (item_bytes * i) b))) = e ∙ word_at b (i * 5) (omega arith) ∙ ap (number 256) p in
+    let v : h ≡ number 256 (drop 8 (take item_bytes (drop (item_bytes * i) b))) = (rw y at g) ∙ ap (number 256) q in
     rw (f, v) (ap (λ (z : ℕ). record { kind = item_kind_in z; hash = number 256 (drop 8 (take item_bytes (drop (item_bytes * i) b))) }) u)
     ∙ sym (recs_at item_bytes item_in (length b / item_bytes) b i d n)
 

@@ -1,5 +1,5 @@
 -- Keys that a call wrote to its answer buffer, read back.
-use Prim.Native.Nat.{ℕ, ◌+◌, ◌-◌, ◌*◌, ◌^◌, ◌≤◌, ◌<◌}
+use Prim.Native.Nat.{ℕ, ◌+◌, ◌-◌, ◌*◌, ◌/◌, ◌^◌, ◌≤◌, ◌<◌}
 use mathlib.Core.Path.{◌≡◌, refl, sym, ap, ◌∙◌}
 use mathlib.Core.List.{List, [], ◌∷◌, ◌++◌, append_assoc, append-nil}
 use native.Mathlib.Omega.{arith}
@@ -11,13 +11,13 @@ use Rattle.ident.specs.declared.Kind.TheVariants.{Txid, Wtxid}
 use Rattle.ident.specs.Number.{Key, top, kind_is}
 use Rattle.words.specs.Words.{number, digits, words, recs, bytes_of}
 use Rattle.words.proofs.Digits.{number_digits}
-use Rattle.words.proofs.Records.{recs_at}
+use Rattle.words.proofs.Records.{recs_at, recs-take}
 use Rattle.words.proofs.Words.{length-bytes, word_at}
 use Rattle.machine.specs.Call.{key_bytes}
 use Rattle.machine.specs.Step.{key_answer, keys_answer, written}
 use Rattle.machine.specs.Typed.{Each, KeyTyped}
 use Rattle.machine.proofs.AnswerLengths.{length-key_answer}
-use Rattle.lent_lists.specs.Lists.{key_in, keys_in}
+use Rattle.lent_lists.specs.Lists.{key_in, keys_in, given_keys}
 
 pub word_back : (x : ℕ) → x < 256 ^ 8 → number 256 (bytes_of (x ∷ [])) ≡ x
 unfolding bytes_of
@@ -61,6 +61,14 @@ front_back (k ∷ ks) v e =
 pub keys_back : (ks : List Key) (u : List ℕ) → Each KeyTyped ks → keys_in (length ks) (written (keys_answer ks) u) ≡ ks
 unfolding written
 keys_back ks u e = front_back ks (drop (length (keys_answer ks)) u) e
+
+-- the keys that the front of a buffer holds
+pub front-keys : (n : ℕ) (b : List ℕ) → key_bytes * n ≤ length b → given_keys (take (n * key_bytes) b) ≡ keys_in n b
+unfolding keys_in
+front-keys n b h =
+    let e : n * key_bytes ≡ key_bytes * n = omega arith in
+    let d : length (take (key_bytes * n) b) / key_bytes ≡ n = omega (arith, length-take-le (key_bytes * n) b h) in
+    rw (e, d) (recs-take key_bytes key_in n b h)
 
 -- ---- one key, as the code reads it
 

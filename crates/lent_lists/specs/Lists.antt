@@ -1,7 +1,5 @@
 -- Lists in lent bytes: hashes given to a call, keys written to its answer buffer (document 01, "Buffer needs in entries").
-use Rattle.std.specs.Prelude.{ℕ, ◌/◌, List, length, take, drop, eqb, if◌then◌else◌}
-use Rattle.ident.specs.declared.Kind.{Kind}
-use Rattle.ident.specs.declared.Kind.TheVariants.{Txid, Wtxid}
+use Rattle.std.specs.Prelude.{ℕ, ◌/◌, List, length, take, drop}
 use Rattle.ident.specs.Number.{Key, kind_is}
 use Rattle.ident.specs.Words.{hash_bytes}
 use Rattle.words.specs.Words.{number, recs}

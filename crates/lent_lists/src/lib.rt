@@ -2,10 +2,10 @@
 // each, and keys that it answers, 40 bytes each.
 #![tactic(auto)]
 
-ghost use Rattle.std.specs.Prelude.{◌≡◌, ◌+◌, ◌*◌, ◌<◌, ◌≤◌, eqb, length, get_or, take, drop};
-ghost use Rattle.words.specs.Words.{splice};
+ghost use Rattle.std.specs.Prelude.{◌≡◌, [], ◌∷◌, ◌++◌, ◌+◌, ◌*◌, ◌<◌, ◌≤◌, eqb, length, get_or, take, drop};
+ghost use Rattle.words.specs.Words.{words, digits, number, bytes_of, splice};
 ghost use Rattle.ident.specs.Number.{Item, kind_number, kind_is};
-ghost use Rattle.ident.specs.Words.{hash_num, key_num, item_num};
+ghost use Rattle.ident.specs.Words.{hash_bytes, hash_num, key_num, item_num};
 ghost use Rattle.machine.specs.Call.{key_bytes};
 ghost use Rattle.machine.specs.Claim.{elem};
 ghost use Rattle.machine.specs.Step.{key_answer};
@@ -47,6 +47,29 @@ pub fn occurs_before(s: &[u8], i: usize) -> bool
     (0..i).any(|j| same_hash(hash_in(s, j), h))
 }
 
+// ---- a word and a hash
+
+// Words of a key and of an item: the number of its kind, and its hash.
+pub const RECORD: usize = KEY / 8;
+
+// Stores a word and the hash h behind it, from the word w on.
+pub fn put_record(u: &mut [u8], w: usize, word: u64, h: ident::Hash)
+    requires { 8 * w + key_bytes ≤ length u.old }
+    ensures { u.new ≡ splice u.old (8 * w) (bytes_of (word ∷ []) ++ digits 256 hash_bytes (hash_num h)) }
+{
+    words::put(u, w, word);
+    ident::put_hash(u, w * 8 + 8, h);
+}
+
+// The word w and the hash behind it.
+pub fn record_at(b: &[u8], w: usize) -> (u64, ident::Hash)
+    requires { 8 * w + key_bytes ≤ length b.now }
+    ensures word { result.0 ≡ get_or (words b.now) w 0 }
+    ensures hash { hash_num result.1 ≡ number 256 (take hash_bytes (drop (w * 8 + 8) b.now)) }
+{
+    (words::get(b, w), ident::hash_at(b, w * 8 + 8))
+}
+
 // ---- items in, and their priorities
 
 // Bytes of 100 hashes, the longest list that a call takes; of a key, and of 100 keys.
@@ -55,9 +78,6 @@ pub const LIST: usize = MAX_PARENTS * ident::HASH_BYTES;
 pub const KEY: usize = 40;
 
 pub const KEYS: usize = MAX_PARENTS * KEY;
-
-// Words of a key and of an item: one, and a hash.
-const RECORD: usize = KEY / 8;
 
 // Bytes of an item, and of a priority.
 pub const ITEM: usize = 40;
@@ -77,18 +97,18 @@ pub fn items(b: &[u8]) -> usize
 fn kind_in(w: u64) -> ident::ItemKind
     ensures { result ≡ item_kind_in w }
 {
-    if w < TYPES {
-        return ident::ItemKind::from(w as u32);
+    match u32::try_from(w) {
+        Ok(t) => ident::ItemKind::from(t),
+        Err(_) => ident::ItemKind::Other((w % TYPES) as u32),
     }
-    ident::ItemKind::Other((w % TYPES) as u32)
 }
 
 pub fn item_at(b: &[u8], i: usize) -> ident::Item
     requires { i < length (items_in b.now) }
     ensures { (d : Item) → item_num result ≡ get_or (items_in b.now) i d }
 {
-    let kind = kind_in(words::get(b, i * RECORD));
-    let hash = ident::hash_at(b, i * ITEM + 8);
+    let (kind, hash) = record_at(b, i * RECORD);
+    let kind = kind_in(kind);
     ident::Item { kind, hash }
 }
 
@@ -106,9 +126,7 @@ pub fn put_key(u: &mut [u8], n: usize, k: ident::Key)
     requires { key_bytes * n + key_bytes ≤ length u.old }
     ensures { u.new ≡ splice u.old (key_bytes * n) (key_answer (key_num k)) }
 {
-    let w = n * RECORD;
-    words::put(u, w, u64::from(k.kind));
-    ident::put_hash(u, w * 8 + 8, k.hash);
+    put_record(u, n * RECORD, u64::from(k.kind), k.hash);
 }
 
 // ---- keys back
@@ -118,8 +136,7 @@ pub fn key_at(u: &[u8], i: usize) -> ident::Key
     requires { key_bytes * i + key_bytes ≤ length u.now }
     ensures { key_num result ≡ key_in (take key_bytes (drop (key_bytes * i) u.now)) }
 {
-    let w = i * RECORD;
-    let kind = ident::Kind::from(words::get(u, w));
-    let hash = ident::hash_at(u, w * 8 + 8);
+    let (kind, hash) = record_at(u, i * RECORD);
+    let kind = ident::Kind::from(kind);
     ident::Key { kind, hash }
 }

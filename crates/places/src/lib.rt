@@ -116,6 +116,8 @@ pub fn seek_place(s: &[u8], n: usize, h: regions::Quad) -> usize
 
 // ---- parts of a place
 
+// (Wtxids and parents have a function each, to read and to put in: one for both would need a trait with two constants and two ghost members, longer than the pairs.)
+
 // Stores the i-th place's stage, any word.
 pub fn set_stage(s: &mut [u8], i: usize, v: u64)
     requires { 8 * (place_size * (i + 1)) ≤ length s.old }
@@ -148,7 +150,7 @@ pub fn read_parent(s: &[u8], i: usize, j: usize) -> regions::Quad
     regions::read_quad(s, i * PLACE + (PARENTS + j * 4))
 }
 
-// Puts h behind the n wtxids of the i-th place. (One function for both lists would need a trait with two constants and two ghost members, longer than the two.)
+// Puts h behind the n wtxids of the i-th place.
 pub fn push_wtxid(s: &mut [u8], i: usize, n: usize, h: regions::Quad)
     requires { (n < list_most) × (8 * (place_size * (i + 1)) ≤ length s.old) }
     ensures { Pushed (words s.old) (words s.new) i (λ p. p.wtxids) with_wtxids n (quad_number h) }

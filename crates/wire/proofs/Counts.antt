@@ -8,7 +8,7 @@ use mathlib.Core.Option.{none, some}
 use native.Mathlib.Omega.{arith}
 use lib.Dec.{ltb, leb, eqb}
 use lib.ListN.{length, take, drop, get_or, length-drop}
-use borrow.Author.Tests.{ltb-true, ltb-false, eqb-true, lt-ltb, le-ltb, le-leb, lt-leb, eq-eqb, ne_eqb}
+use borrow.Author.Tests.{ltb-true, ltb-false, eqb-true, eqb-false, lt-ltb, le-ltb, le-leb, lt-leb, eq-eqb, ne_eqb}
 use Rattle.std.specs.Prelude.{if◌then◌else◌}
 use Rattle.words.specs.Words.{number, digits, recs}
 use Rattle.words.proofs.Digits.{length_digits}
@@ -119,6 +119,14 @@ long_first (x ∷ b) h e l = none_long x b (omega arith)
 pub cut-count : (b : List ℕ) → 0 < length b → get_or b 0 0 ≡ 253 → length b < 3 → items_of b ≡ none
 cut-count [] h e l = absurd (omega arith)
 cut-count (x ∷ b) h e l = rw e (none_cut b (omega arith))
+
+-- a first byte from 253 on, and fewer than two behind it
+pub none-short : (b : List ℕ) → 0 < length b → 253 ≤ get_or b 0 0 → length b < 3 → items_of b ≡ none
+none-short b h g l =
+    elim (test (eqb (get_or b 0 0) 253)) [
+      | inl e ↦ cut-count b h (eqb-true (get_or b 0 0) 253 e) l
+      | inr e ↦ long_first b h refl (omega (arith, eqb-false (get_or b 0 0) 253 e))
+    ]
 
 pub low_count : (b : List ℕ) → 3 ≤ length b → get_or b 0 0 ≡ 253 → get_or b 1 0 + get_or b 2 0 * 256 < 253 → items_of b ≡ none
 low_count [] h e l = absurd (omega arith)

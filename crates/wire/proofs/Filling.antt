@@ -11,7 +11,7 @@ use Rattle.std.specs.Int.{w32, to_le_bytes}
 use Rattle.ident.specs.declared.ItemKind.TheVariants.{Transaction}
 use Rattle.ident.specs.Number.{Item, type_of}
 use Rattle.ident.proofs.TypeNumbers.{type-kind}
-use Rattle.words.specs.Words.{number, digits, recs, bytes_of, splice, Put}
+use Rattle.words.specs.Words.{number, digits, recs, bytes_of, splice}
 use Rattle.words.proofs.Digits.{length_digits, number_step}
 use Rattle.words.proofs.Records.{recs-add, length-recs}
 use Rattle.words.proofs.Splice.{splice_more}
@@ -79,21 +79,17 @@ stores_three (x ∷ y ∷ z ∷ s) n h l m = rw (size-three n l m)
 
 -- ---- an item of a payload, stored in a list
 
-pub item_read : (p : List ℕ) (a i : ℕ) {t h : ℕ} {u u₁ u₂ : List ℕ} → a + wire_bytes ≤ length p → item_bytes * i + item_bytes ≤ length u
-    → t ≡ number 256 (take 4 (drop a p)) → h ≡ number 256 (take 32 (drop (a + 4) p)) → Put u u₁ (i * 5) t → u₂ ≡ splice u₁ (i * 5 * 8 + 8) (digits 256 32 h)
-    → u₂ ≡ splice u (item_bytes * i) (item_answer (wire_item (take wire_bytes (drop a p))))
-unfolding bytes_of wire_item
-item_read p a i {t} {h} {u} m l e f g q =
+pub item_read : (p u : List ℕ) (a i : ℕ) {t h : ℕ} {u' : List ℕ} → a + wire_bytes ≤ length p
+    → t ≡ number 256 (take 4 (drop a p)) → h ≡ number 256 (take 32 (drop (a + 4) p)) → u' ≡ splice u (8 * (i * 5)) (bytes_of (t ∷ []) ++ digits 256 32 h)
+    → u' ≡ splice u (item_bytes * i) (item_answer (wire_item (take wire_bytes (drop a p))))
+unfolding wire_item
+item_read p u a i {t} {h} m e f q =
     let b = drop a p in
     let x : t ≡ number 256 (take 4 (take wire_bytes b)) = e ∙ ap (number 256) (sym (take-take 4 wire_bytes b (omega arith))) in
     let z : h ≡ number 256 (drop 4 (take wire_bytes b)) =
     f ∙ ap (λ (s : List ℕ). number 256 (take 32 s)) (sym (drop-drop 4 a p)) ∙ ap (number 256) (sym (drop-take 4 32 b)) in
     let n : 8 * (i * 5) ≡ item_bytes * i = omega arith in
-    let j = length_digits 256 8 t in
-    let k = length_digits 256 32 h in
-    q ∙ ap (λ (s : List ℕ). splice s (i * 5 * 8 + 8) (digits 256 32 h)) g.bytes
-    ∙ splice_more u (8 * (i * 5)) (i * 5 * 8 + 8) (digits 256 8 t) (digits 256 32 h) (omega arith) (omega arith)
-    ∙ rw (n, append-nil, type-kind (number 256 (take 4 (take wire_bytes b))), ← x, ← z)
+    rw (type-kind (number 256 (take 4 (take wire_bytes b))), ← x, ← z) (rw n at q)
 
 -- ---- items of a payload, stored one behind the other
 

@@ -37,15 +37,12 @@ pub const MAX_ITEMS: usize = 50_000;
 // Bytes of an item in a payload.
 pub const WIRE_BYTES: usize = 36;
 
-// Words of an item in a list.
-const ITEM_WORDS: usize = lent_lists::ITEM / 8;
-
 // The first byte of a count that has two more; a count below it is one byte.
-const TWO_MORE: u64 = 253;
+const TWO_MORE: u8 = 253;
 
 // ---- a payload's count
 
-// The count n and where its items begin, if the payload, which begins with n, has so many items behind it.
+// The count n and where its items begin, if the payload, which begins with n, has so many items behind it. (A pair: `read_payload` takes it apart at once.)
 fn matching(p: &[u8], n: usize, at: usize) -> Option<(usize, usize)>
     requires { Begins p.now n at }
     ensures { Counted p.now result }
@@ -60,28 +57,20 @@ fn matching(p: &[u8], n: usize, at: usize) -> Option<(usize, usize)>
 }
 
 // A first byte of 254 or 255 begins a count above 50,000, or one that is not in its shortest form.
-// (By length and index, as the laws of a count's bytes go: patterns of the slice would be the same tests.)
 fn count_of(p: &[u8]) -> Option<(usize, usize)>
     ensures { Counted p.now result }
 {
-    if p.len() == 0 {
-        return None;
+    match *p {
+        [c, ..] if c < TWO_MORE => matching(p, usize::from(c), 1),
+        [TWO_MORE, low, high, ..] => {
+            let n = u16::from_le_bytes([low, high]);
+            if n < u16::from(TWO_MORE) {
+                return None;
+            }
+            matching(p, usize::from(n), 3)
+        }
+        _ => None,
     }
-    let c = u64::from(p[0]);
-    if c < TWO_MORE {
-        return matching(p, c as usize, 1);
-    }
-    if TWO_MORE < c {
-        return None;
-    }
-    if p.len() < 3 {
-        return None;
-    }
-    let n = u64::from(u16::from_le_bytes([p[1], p[2]]));
-    if n < TWO_MORE {
-        return None;
-    }
-    matching(p, n as usize, 3)
 }
 
 // ---- items read
@@ -101,9 +90,7 @@ fn read_item(p: &[u8], a: usize, list: &mut [u8], i: usize)
 {
     let t = type_at(p, a);
     let h = ident::hash_at(p, a + 4);
-    let w = i * ITEM_WORDS;
-    words::put(list, w, t);
-    ident::put_hash(list, w * 8 + 8, h);
+    lent_lists::put_record(list, i * lent_lists::RECORD, t, h);
 }
 
 // Stores the n items of the payload, which stand from index at on, as the first of the list. (n is the payload's own count: the list goes on behind n items, and the contract
@@ -167,7 +154,7 @@ fn count_bytes(n: usize) -> usize
     requires { n ≤ max_items }
     ensures { result ≡ length (compact_size n) }
 {
-    if (n as u64) < TWO_MORE { 1 } else { 3 }
+    if n < usize::from(TWO_MORE) { 1 } else { 3 }
 }
 
 // Stores the count n in front.
@@ -175,22 +162,22 @@ fn put_count(s: &mut [u8], n: usize)
     requires { (n ≤ max_items) × (length (compact_size n) ≤ length s.old) }
     ensures { s.new ≡ written (compact_size n) s.old }
 {
-    if (n as u64) < TWO_MORE {
+    if n < usize::from(TWO_MORE) {
         s[0] = n as u8;
         return;
     }
     let [low, high] = (n as u16).to_le_bytes();
-    s[0] = TWO_MORE as u8;
+    s[0] = TWO_MORE;
     s[1] = low;
     s[2] = high;
 }
 
-// Stores the items of the list one behind the other, from index at on. (n is the list's count, which `write_payload` has tested.)
-fn write_items(items: &[u8], n: usize, s: &mut [u8], at: usize)
-    requires { (n ≡ length (items_in items.now)) × (at + wire_bytes * n ≤ length s.old) }
+// Stores the items of the list one behind the other, from index at on.
+fn write_items(items: &[u8], s: &mut [u8], at: usize)
+    requires { at + wire_bytes * length (items_in items.now) ≤ length s.old }
     ensures { s.new ≡ splice s.old at (wires_of (items_in items.now)) }
 {
-    for i in 0..n {
+    for i in 0..lent_lists::items(items) {
         write_item(items, i, s, at + i * WIRE_BYTES);
     }
 }
@@ -212,6 +199,6 @@ pub fn write_payload(items: &[u8], answer: &mut [u8]) -> Result<u64, Refusal>
         return Err(Refusal::AnswerTooShort);
     }
     put_count(answer, n);
-    write_items(items, n, answer, at);
+    write_items(items, answer, at);
     Ok(need as u64)
 }

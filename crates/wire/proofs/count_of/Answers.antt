@@ -1,23 +1,24 @@
 -- `wire::count_of` meets its contract.
+use mathlib.Core.Path.{refl}
 use native.Mathlib.Omega.{arith}
-use Rattle.wire.proofs.Counts.{none_empty, begins_one, long_first, cut-count, low_count, begins-three}
+use Rattle.wire.proofs.Counts.{none_empty, begins_one, long_first, none-short, low_count, begins-three}
 use Rattle.wire.proofs.count_of.Goals as goal
 
-pub returns-then-p-eq0 : goal.returns-then-p-eq0
-returns-then-p-eq0 c = none_empty c.args.p.now c.if-p-eq0.true
-
 pub matching-requires : goal.matching-requires
-matching-requires c = begins_one c.args.p.now (omega arith) c.from-c.ensures (omega arith)
+matching-requires c = begins_one c.args.p.now (omega arith) c.from.ensures (omega arith)
 
-pub returns-then-c-gt-TWO_MORE : goal.returns-then-c-gt-TWO_MORE
-returns-then-c-gt-TWO_MORE c = long_first c.args.p.now (omega arith) c.from-c.ensures (omega arith)
+pub returns-then-n-from : goal.returns-then-n-from
+returns-then-n-from c = low_count c.args.p.now (omega arith) (omega arith) (omega arith)
 
-pub returns-then-p-lt3 : goal.returns-then-p-lt3
-returns-then-p-lt3 c = cut-count c.args.p.now (omega arith) (omega arith) (omega arith)
-
-pub returns-then-n-lt-TWO_MORE : goal.returns-then-n-lt-TWO_MORE
-returns-then-n-lt-TWO_MORE c = low_count c.args.p.now (omega arith) (omega arith) (omega arith)
-
-pub matching-requires-2 : goal.matching-requires-2
-matching-requires-2 c =
+pub matching-requires-in-253 : goal.matching-requires-in-253
+matching-requires-in-253 c =
     begins-three c.args.p.now (omega arith) (omega arith) (omega arith) (omega arith) (omega arith)
+
+pub returns-in_default : goal.returns-in_default
+returns-in_default c = none_empty c.args.p.now (omega arith)
+
+pub returns-in_default-2 : goal.returns-in_default-2
+returns-in_default-2 c = none-short c.args.p.now (omega arith) (omega arith) (omega arith)
+
+pub returns-in_default-3 : goal.returns-in_default-3
+returns-in_default-3 c = long_first c.args.p.now (omega arith) refl (omega arith)

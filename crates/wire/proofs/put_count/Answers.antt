@@ -8,8 +8,8 @@ use Rattle.wire.proofs.put_count.Goals as goal
 pub bounds-s-0 : goal.bounds-s-0
 bounds-s-0 c = omega (arith, length_one c.args.n (omega arith))
 
-pub returns-then-n-lt-TWO_MORE : goal.returns-then-n-lt-TWO_MORE
-returns-then-n-lt-TWO_MORE c = stores_one c.args.s.now c.args.n (omega (arith, length_one c.args.n (omega arith))) (omega arith)
+pub returns-then-n-from : goal.returns-then-n-from
+returns-then-n-from c = stores_one c.args.s.now c.args.n (omega (arith, length_one c.args.n (omega arith))) (omega arith)
 
 pub bounds-s-0-2 : goal.bounds-s-0-2
 bounds-s-0-2 c = omega (arith, length_three c.args.n (omega arith) (omega arith))

@@ -4,7 +4,7 @@ use Rattle.wire.proofs.read_item.Goals as goal
 
 pub returns : goal.returns
 returns c =
-    item_read c.args.p.now c.args.a c.args.i c.requires.0 c.requires.1
+    item_read c.args.p.now c.args.list.now c.args.a c.args.i c.requires.0
     c.type_at-t.ensures
-    c.hash_at-h.ensures c.put.ensures
-    c.put_hash.ensures
+    c.hash_at-h.ensures
+    c.put_record.ensures

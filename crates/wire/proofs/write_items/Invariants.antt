@@ -8,7 +8,7 @@ use Rattle.wire.specs.Payload.{wires_of}
 use Rattle.wire.proofs.write_items.Given as goal
 
 abbrev pub invariant-loop-i : goal.invariant-loop-i
-invariant-loop-i l = (l.i ≤ l.n) × (length l.s ≡ length l.initial.s) × (l.s ≡ splice l.initial.s l.at (wires_of (take l.i (items_in l.items))))
+invariant-loop-i l = (l.i ≤ l.i-end) × (length l.s ≡ length l.initial.s) × (l.s ≡ splice l.initial.s l.at (wires_of (take l.i (items_in l.items))))
 
 abbrev pub decreases-loop-i : goal.decreases-loop-i
-decreases-loop-i l = l.n - l.i
+decreases-loop-i l = l.i-end - l.i

@@ -1,4 +1,5 @@
 -- `claiming::entries::put_item` meets its contract.
+use native.Mathlib.Omega.{arith}
 use Rattle.ident.specs.Words.{item_num}
 use Rattle.claiming.proofs.Stored.{item-put}
 use Rattle.claiming.proofs.entries.put_item.Goals as goal
@@ -8,5 +9,5 @@ returns c = item-put c.args.w
     c.args.connection _
     (item_num c.args.item)
     c.requires
-    c.from.ensures c.put.ensures
-    c.put-2.ensures c.put_hash.ensures
+    (omega (arith, c.from.ensures, c.from-2.ensures)) c.put.ensures
+    c.put_record.ensures

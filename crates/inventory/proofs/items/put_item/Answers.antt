@@ -18,5 +18,5 @@ returns c =
     c.args.i
     c.args.item.kind (quad_number q) t u
     c.requires
-    c.from.ensures c.from-2.ensures
-    c.put.ensures.bytes c.put_hash.ensures
+    (omega (arith, c.from.ensures, c.from-t.ensures)) c.from-2.ensures
+    c.put_record.ensures
