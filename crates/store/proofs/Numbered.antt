@@ -14,7 +14,8 @@ use Rattle.store.specs.Flat.{Flat}
 use Rattle.store.specs.Image.{Shows, head_size}
 use Rattle.store.specs.Parts.{RowsPart, conns_from}
 use Rattle.store.specs.Shown.{limit_in, rows_in, row_numbers, Seek}
-use Rattle.store.proofs.Frame.{sizes, lent, rows-lent}
+use Rattle.store.specs.PartLaws.{row_laws}
+use Rattle.store.proofs.Frame.{sizes, lent, part-lent}
 use Rattle.store.proofs.Searches.{numbers}
 
 module _ (b : List ℕ) (fits : (i : ℕ) → i < length b → get_or b i 0 < 256) (few : rows_in b ≤ limit_in b) where
@@ -34,7 +35,7 @@ module _ (b : List ℕ) (fits : (i : ℕ) → i < length b → get_or b i 0 < 25
         let room : 8 * (row_size * n) ≤ length rows = omega (arith, e, few) in
         let small : (i : ℕ) → i < length rows → get_or rows i 0 < 256 =
         λ i l. rw (get_or-take k (drop (head_size * 8) b) i 0 (omega (arith, e, l)), get_or-drop (head_size * 8) b i 0) (fits (head_size * 8 + i) (omega (arith, e, l))) in
-        let q : recs row_size row_key n (words rows) ≡ row_numbers f.rows = numbers f.head.limit f.rows (omega (arith, few)) (rows-lent h part) in
+        let q : recs row_size row_key n (words rows) ≡ row_numbers f.rows = numbers f.head.limit f.rows (omega (arith, few)) (part-lent row_laws h part) in
         λ i l. rw q at (row-keys_below rows small n room i (rw (← q, length-recs row_size row_key n (words rows)) at l))
 
   pub seek_numbered : {n x r : ℕ} → Seek b (λ f. row_numbers f.rows) n (min x (2 * top)) r → Seek b (λ f. row_numbers f.rows) n x r
