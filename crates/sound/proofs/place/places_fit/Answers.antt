@@ -8,7 +8,8 @@ use Rattle.sound.proofs.PlaceWalk.{places_made, place_of, follow_iff, place-lent
 use Rattle.sound.proofs.place.places_fit.Goals as goal
 
 pub returns-then-not-place_fits : goal.returns-then-not-place_fits
-returns-then-not-place_fits c = λ r z. (rw (place-lent c.args.s.now c.loop-i.i (omega arith)) at (c.if-not-place_fits.ensures r)) (place_of _ c.args.q c.args.s.now c.requires z c.loop-i.i (omega arith))
+returns-then-not-place_fits c = λ r z. (rw (place-lent c.args.s.now c.loop-i.i (omega arith)) at (c.if-not-place_fits.ensures r))
+    (place_of _ c.args.q c.args.s.now c.requires z c.loop-i.i (omega arith))
 
 pub returns-then-not-place_follows : goal.returns-then-not-place_follows
 returns-then-not-place_follows c = λ _ z. c.if-not-place_follows.ensures ((follow_iff c.args.q (words c.args.s.now)).from z.ascend c.loop-i.i (omega arith))
