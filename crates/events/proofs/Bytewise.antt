@@ -6,13 +6,13 @@ use mathlib.Core.List.{List, [], ◌∷◌, ◌++◌, append_assoc, append-nil}
 use mathlib.Core.Option.{Option, none, some}
 use native.Mathlib.Omega.{arith}
 use lib.ListN.{length, take, drop, set, get_or, length-append}
-use lib.Seq.{take_all, take_at, take-suc, take-suc-set}
+use lib.Seq.{take_all, take_at, take-append-le, take-suc, take-suc-set}
 use borrow.Author.Tests.{lt-ltb, le-ltb, eq-eqb, ne_eqb, ltb-true, ltb-false}
 use Rattle.words.specs.Words.{splice}
 use Rattle.lines.specs.Text.{Wrote}
-use Rattle.events.specs.declared.kept.Length.{Length}
-use Rattle.events.specs.declared.kept.Kept.{Kept}
-use Rattle.events.specs.declared.kept.Kept.TheVariants.{Whole, TooLong}
+use Rattle.events.specs.declared.so_far.Length.{Length}
+use Rattle.events.specs.declared.so_far.SoFar.{SoFar}
+use Rattle.events.specs.declared.so_far.SoFar.TheVariants.{Whole, TooLong}
 use Rattle.reading.specs.Line.{Line}
 use Rattle.asking.specs.Calls.{line_of}
 use Rattle.printing.specs.Replies.{refusal_text, unreadable}
@@ -67,11 +67,11 @@ fed {o} {k} {k'} {b} {b'} {out} {out'} {r} {e} a h q =
 
 -- ---- the line that is answered
 
-asked-line : (k : Kept) (buffer line : List ℕ) → HeldLine k buffer line → asked_in k buffer ≡ asks_for line
+asked-line : (k : SoFar) (buffer line : List ℕ) → HeldLine k buffer line → asked_in k buffer ≡ asks_for line
 asked-line (Whole n) buffer line h = rw (le-ltb line_room (length line) h.1) (ap line_of h.2)
-asked-line TooLong buffer line h = rw (lt-ltb line_room (length line) h) refl
+asked-line TooLong buffer line h = rw (lt-ltb line_room (length line) h.0) refl
 
-module _ {k : Kept} {buffer store : List ℕ} {lists : KeptLists} {p : Reading} (g : Held k buffer store lists p) where
+module _ {k : SoFar} {buffer store : List ℕ} {lists : KeptLists} {p : Reading} (g : Held k buffer store lists p) where
   answered-line : {lists' : KeptLists} {store' out : List ℕ} {r : ℕ} (a : Said (asked_in k buffer) lists lists' store store' out r)
       → LineAnswered p.line p.kept lists' p.store store' (a.text ++ (line_feed ∷ []))
   answered-line {lists'} {store'} a =
@@ -81,9 +81,9 @@ module _ {k : Kept} {buffer store : List ℕ} {lists : KeptLists} {p : Reading} 
 
   -- ---- a byte
 
-  pub took_feed : {x : ℕ} {none : Length} {lists' : KeptLists} {store' out : List ℕ} {r : ℕ} → x ≡ line_feed → none.bytes ≡ 0 → Said (asked_in k buffer) lists lists' store store' out r
-      → Took p x (Whole none) buffer store' lists' out
-  took_feed {x} {none} {lists'} {store'} {out} {r} e z a =
+  pub took_feed : {x : ℕ} {none : Length} {buffer' : List ℕ} {lists' : KeptLists} {store' out : List ℕ} {r : ℕ} → x ≡ line_feed → none.bytes ≡ 0
+      → Said (asked_in k buffer) lists lists' store store' out r → Took p x (Whole none) buffer' store' lists' out
+  took_feed {x} {none} {buffer'} {lists'} {store'} {out} {r} e z a =
       record {
         next = record { line = []; store = store'; kept = lists' };
         said = a.text ++ (line_feed ∷ []);
@@ -93,7 +93,7 @@ module _ {k : Kept} {buffer store : List ℕ} {lists : KeptLists} {p : Reading} 
       }
 
   -- any other byte, the buffer holding k' of the longer line
-  took_other : {x : ℕ} {k' : Kept} {buffer' out : List ℕ} → (x ≡ line_feed → ⊥) → HeldLine k' buffer' (p.line ++ (x ∷ [])) → Took p x k' buffer' store lists out
+  took_other : {x : ℕ} {k' : SoFar} {buffer' out : List ℕ} → (x ≡ line_feed → ⊥) → HeldLine k' buffer' (p.line ++ (x ∷ [])) → Took p x k' buffer' store lists out
   took_other {x} other h = record {
     next = record { line = p.line ++ (x ∷ []); store = p.store; kept = p.kept };
     said = [];
@@ -106,15 +106,21 @@ one_longer : (l : List ℕ) (x : ℕ) → length (l ++ (x ∷ [])) ≡ suc (leng
 one_longer l x = length-append l (x ∷ []) ∙ omega arith
 
 -- the line is too long already
-pub took_longer : (k : Kept) {x : ℕ} {buffer store : List ℕ} {lists : KeptLists} {out : List ℕ} {p : Reading} → ((n : Length) → k ≡ Whole n → ⊥) → Held k buffer store lists p → (x ≡ line_feed → ⊥)
+pub took_longer : (k : SoFar) {x : ℕ} {buffer store : List ℕ} {lists : KeptLists} {out : List ℕ} {p : Reading} → ((n : Length) → k ≡ Whole n → ⊥) → Held k buffer store lists p → (x ≡ line_feed → ⊥)
     → Took p x k buffer store lists out
 took_longer (Whole n) short g other = absurd (short n refl)
-took_longer TooLong {x} {p = p} short g other = took_other g other (omega (arith, g.line_is, one_longer p.line x))
+took_longer TooLong {x} {p = p} short g other =
+    took_other g other (omega (arith, g.line_is.0, one_longer p.line x), g.line_is.1 ∙ sym (take-append-le line_room p.line (x ∷ []) (omega (arith, g.line_is.0))))
 
 module _ {n : Length} {x : ℕ} {buffer store : List ℕ} {lists : KeptLists} {p : Reading} (g : Held (Whole n) buffer store lists p) (other : x ≡ line_feed → ⊥) where
   -- the buffer is full
   pub took_over : {out : List ℕ} → n.bytes ≡ line_room → Took p x TooLong buffer store lists out
-  took_over e = took_other g other (omega (arith, g.line_is.0, one_longer p.line x))
+  took_over e =
+      let l : length p.line ≡ line_room = omega (arith, g.line_is.0, e) in
+      took_other g other (
+        omega (arith, l, one_longer p.line x),
+        subst (λ (m : ℕ). take m buffer ≡ p.line) e g.line_is.2 ∙ sym (take_all line_room p.line (omega (arith, l))) ∙ sym (take-append-le line_room p.line (x ∷ []) (omega (arith, l))),
+      )
 
   -- the buffer takes it
   pub took_byte : {more : Length} {out : List ℕ} → more.bytes ≡ n.bytes + 1 → n.bytes < line_room → line_room ≤ length buffer → Took p x (Whole more) (set buffer n.bytes x) store lists out
@@ -128,22 +134,22 @@ module _ {n : Length} {x : ℕ} {buffer store : List ℕ} {lists : KeptLists} {p
 
 -- ---- the end
 
-pub some-line : (k : Kept) (buffer line : List ℕ) → HeldLine k buffer line → has_line k ≡ true → 0 < length line
+pub some-line : (k : SoFar) (buffer line : List ℕ) → HeldLine k buffer line → has_line k ≡ true → 0 < length line
 some-line (Whole n) buffer line h e = omega (arith, h.0, ltb-true 0 n.bytes e)
-some-line TooLong buffer line h e = omega (arith, h)
+some-line TooLong buffer line h e = omega (arith, h.0)
 
-pub no-line : (k : Kept) (buffer line : List ℕ) → HeldLine k buffer line → has_line k ≡ false → length line ≡ 0
+pub no-line : (k : SoFar) (buffer line : List ℕ) → HeldLine k buffer line → has_line k ≡ false → length line ≡ 0
 no-line (Whole n) buffer line h e = omega (arith, h.0, ltb-false 0 n.bytes e)
 no-line TooLong buffer line h e = cc
 
-pub ended-empty : {k : Kept} {buffer store : List ℕ} {lists : KeptLists} {out : List ℕ} {p : Reading} → Held k buffer store lists p → length p.line ≡ 0 → Ended p store out
+pub ended-empty : {k : SoFar} {buffer store : List ℕ} {lists : KeptLists} {out : List ℕ} {p : Reading} → Held k buffer store lists p → length p.line ≡ 0 → Ended p store out
 ended-empty {store = store} {p = p} g n = record { kept = p.kept; said = []; ends = go p.line n; shown = refl }
   where
     go : (l : List ℕ) → length l ≡ 0 → EndsAs l p.kept p.kept p.store store []
     go [] z = (g.store_is, refl)
     go (x ∷ l) z = absurd (omega (arith, z))
 
-pub ended-line : {k : Kept} {buffer store : List ℕ} {lists lists' : KeptLists} {store' out : List ℕ} {p : Reading} {r : ℕ} → Held k buffer store lists p → 0 < length p.line
+pub ended-line : {k : SoFar} {buffer store : List ℕ} {lists lists' : KeptLists} {store' out : List ℕ} {p : Reading} {r : ℕ} → Held k buffer store lists p → 0 < length p.line
     → Said (asked_in k buffer) lists lists' store store' out r → Ended p store' out
 ended-line {k} {buffer} {store} {lists} {lists'} {store'} {out} {p} g n a =
     record {
@@ -160,10 +166,10 @@ ended-line {k} {buffer} {store} {lists} {lists'} {store'} {out} {p} g n a =
 
 -- ---- bytes one after the other
 
-pub took_none : {k : Kept} {buffer store : List ℕ} {lists : KeptLists} {p : Reading} → Held k buffer store lists p → TookAll p [] k buffer store lists
+pub took_none : {k : SoFar} {buffer store : List ℕ} {lists : KeptLists} {p : Reading} → Held k buffer store lists p → TookAll p [] k buffer store lists
 took_none {p = p} g = record { next = p; said = []; reads = nothing p; held = g }
 
-pub took_one : {p : Reading} {xs ys : List ℕ} {k : Kept} {buffer store : List ℕ} {lists : KeptLists} {x : ℕ} {k' : Kept} {buffer' store' : List ℕ} {lists' : KeptLists}
+pub took_one : {p : Reading} {xs ys : List ℕ} {k : SoFar} {buffer store : List ℕ} {lists : KeptLists} {x : ℕ} {k' : SoFar} {buffer' store' : List ℕ} {lists' : KeptLists}
     {out : List ℕ} → (t : TookAll p xs k buffer store lists)
     → Took t.next x k' buffer' store' lists' out → ys ≡ xs ++ (x ∷ [])
     → TookAll p ys k' buffer' store' lists'
@@ -182,7 +188,7 @@ reads_on p m xs a r m' q ys c (further s zs n before x t said u v) e =
     let w = further p (xs ++ zs) n (a ++ before) x q said (reads_on p m xs a r m' n zs before u e) v in
     subst (λ (l : List ℕ). ReadsAll p (xs ++ (zs ++ (x ∷ []))) q l) (append_assoc a before said) (subst (λ (l : List ℕ). ReadsAll p l q ((a ++ before) ++ said)) (append_assoc xs zs (x ∷ [])) w)
 
-pub took_more : {p : Reading} {k : Kept} {buffer store : List ℕ} {lists : KeptLists} {k' : Kept} {buffer' store' : List ℕ} {lists' : KeptLists} → (t : TookSome p k buffer store lists)
+pub took_more : {p : Reading} {k : SoFar} {buffer store : List ℕ} {lists : KeptLists} {k' : SoFar} {buffer' store' : List ℕ} {lists' : KeptLists} → (t : TookSome p k buffer store lists)
     → TookSome t.all.next k' buffer' store' lists' → TookSome p k' buffer' store' lists'
 took_more {p} t u =
     record {
@@ -195,12 +201,12 @@ took_more {p} t u =
       };
     }
 
-pub nothing_held : {k : Kept} {buffer store : List ℕ} {lists : KeptLists} → HeldLine k buffer [] → lists ≡ no_lists → Held k buffer store lists (started store)
+pub nothing_held : {k : SoFar} {buffer store : List ℕ} {lists : KeptLists} → HeldLine k buffer [] → lists ≡ no_lists → Held k buffer store lists (started store)
 nothing_held h w = record { line_is = h; store_is = refl; lists-are = w }
 
 -- ---- the whole input
 
-pub ran : {b : List ℕ} {k : Kept} {buffer store : List ℕ} {lists : KeptLists} {store' out : List ℕ} → (t : TookSome (started b) k buffer store lists) → Ended t.all.next store' out → Ran b store'
+pub ran : {b : List ℕ} {k : SoFar} {buffer store : List ℕ} {lists : KeptLists} {store' out : List ℕ} → (t : TookSome (started b) k buffer store lists) → Ended t.all.next store' out → Ran b store'
 ran t e = record {
   bytes = t.bytes;
   said = t.all.said ++ e.said;
@@ -213,6 +219,6 @@ ran t e = record {
 pub take_next : (l : List ℕ) (i : ℕ) → i < length l → take (i + 1) l ≡ take i l ++ (get_or l i 0 ∷ [])
 take_next l i h = let e : i + 1 ≡ suc i = omega arith in rw e (take-suc l i 0 h)
 
-pub took_whole : {p : Reading} {xs : List ℕ} {k : Kept} {buffer store : List ℕ} {lists : KeptLists} (i : ℕ) → length xs ≤ i → TookAll p (take i xs) k buffer store lists
+pub took_whole : {p : Reading} {xs : List ℕ} {k : SoFar} {buffer store : List ℕ} {lists : KeptLists} (i : ℕ) → length xs ≤ i → TookAll p (take i xs) k buffer store lists
     → TookAll p xs k buffer store lists
 took_whole {p} {xs} {k} {buffer} {store} {lists} i h t = subst (λ (l : List ℕ). TookAll p l k buffer store lists) (take_all i xs h) t

@@ -5,8 +5,8 @@ use Rattle.words.specs.Words.{Decides}
 use Rattle.machine.specs.Call.{Call}
 use Rattle.store.specs.Image.{SoundStore}
 use Rattle.outcome.specs.Outcome.{Effect, Does}
-use Rattle.events.specs.declared.kept.Kept.{Kept}
-use Rattle.events.specs.declared.kept.Kept.TheVariants.{Whole, TooLong}
+use Rattle.events.specs.declared.so_far.SoFar.{SoFar}
+use Rattle.events.specs.declared.so_far.SoFar.TheVariants.{Whole, TooLong}
 use Rattle.reading.specs.Line.{Line}
 use Rattle.asking.specs.Calls.{line_of}
 use Rattle.printing.specs.Replies.{refusal_text, unreadable, reply_text}
@@ -99,28 +99,28 @@ pub record Input (b xs b' said : List ℕ) : Type 0 where
 -- ---- what the program keeps of it
 
 -- what is asked for by a line of which the buffer holds so much
-abbrev pub asked_in : Kept → List ℕ → Option Line
+abbrev pub asked_in : SoFar → List ℕ → Option Line
 asked_in (Whole n) buffer = line_of (take n.bytes buffer)
 asked_in TooLong buffer = none
 
 -- whether bytes came behind the last line feed
-abbrev pub has_line : Kept → Bool
+abbrev pub has_line : SoFar → Bool
 has_line (Whole n) = ltb 0 n.bytes
 has_line TooLong = true
 
--- a line of at most 65,536 bytes stands in the buffer
-abbrev pub HeldLine : Kept → List ℕ → List ℕ → Type 0
+-- a line of at most 65,536 bytes stands in the buffer, and of a longer one its first 65,536
+abbrev pub HeldLine : SoFar → List ℕ → List ℕ → Type 0
 HeldLine (Whole n) buffer line = (n.bytes ≡ length line) × (length line ≤ line_room) × (take n.bytes buffer ≡ line)
-HeldLine TooLong buffer line = line_room < length line
+HeldLine TooLong buffer line = (line_room < length line) × (take line_room buffer ≡ take line_room line)
 
 -- and the kept lists are those of the reading
-pub record Held (k : Kept) (buffer store : List ℕ) (lists : KeptLists) (p : Reading) : Type 0 where
+pub record Held (k : SoFar) (buffer store : List ℕ) (lists : KeptLists) (p : Reading) : Type 0 where
   pub line_is : HeldLine k buffer p.line
   pub store_is : store ≡ p.store
   pub lists-are : lists ≡ p.kept
 
 -- what holds of every reading that the program keeps so
-abbrev pub OfHeld : Kept → List ℕ → List ℕ → KeptLists → (Reading → Type 0) → Type 0
+abbrev pub OfHeld : SoFar → List ℕ → List ℕ → KeptLists → (Reading → Type 0) → Type 0
 OfHeld k buffer store lists P = (p : Reading) → Held k buffer store lists p → P p
 
 -- ---- the contracts
@@ -132,7 +132,7 @@ pub record Said (o : Option Line) (k k' : KeptLists) (b b' out : List ℕ) (r : 
   pub count : r ≡ length (text ++ (line_feed ∷ []))
   pub shown : take r out ≡ text ++ (line_feed ∷ [])
 
-pub record Took (p : Reading) (x : ℕ) (k : Kept) (buffer store : List ℕ) (lists : KeptLists) (out : List ℕ) : Type 0 where
+pub record Took (p : Reading) (x : ℕ) (k : SoFar) (buffer store : List ℕ) (lists : KeptLists) (out : List ℕ) : Type 0 where
   pub next : Reading
   pub said : List ℕ
   pub reads : Reads p x next said
@@ -140,14 +140,14 @@ pub record Took (p : Reading) (x : ℕ) (k : Kept) (buffer store : List ℕ) (li
   -- what is written stands at the front of out
   pub shown : take (length said) out ≡ said
 
-pub record TookAll (p : Reading) (xs : List ℕ) (k : Kept) (buffer store : List ℕ) (lists : KeptLists) : Type 0 where
+pub record TookAll (p : Reading) (xs : List ℕ) (k : SoFar) (buffer store : List ℕ) (lists : KeptLists) : Type 0 where
   pub next : Reading
   pub said : List ℕ
   pub reads : ReadsAll p xs next said
   pub held : Held k buffer store lists next
 
 -- some bytes: which, no contract of a reader says
-pub record TookSome (p : Reading) (k : Kept) (buffer store : List ℕ) (lists : KeptLists) : Type 0 where
+pub record TookSome (p : Reading) (k : SoFar) (buffer store : List ℕ) (lists : KeptLists) : Type 0 where
   pub bytes : List ℕ
   pub all : TookAll p bytes k buffer store lists
 

@@ -4,8 +4,8 @@
 #![tactic(auto)]
 
 mod input;
-mod kept;
 mod output;
+mod so_far;
 
 use output::Output;
 use std::process::ExitCode;

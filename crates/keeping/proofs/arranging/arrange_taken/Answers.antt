@@ -16,4 +16,5 @@ invariant_of-lists c = sent_sorted _ _ c.arrange-a.ensures _ (entries_told _ c.a
 pub returns : goal.returns
 returns c =
     rw (← c.lists.view_is) (step_sent _ (words c.args.witnesses.now)
-    (does_is (λ i. Arrange (words c.args.witnesses.now) (c.bytes.ensures.entries i) (c.answer_buffer-answer.ensures i)) c.arrange-a.ensures) refl (entries_told _ c.arrange-a.result c.keep_entries.ensures))
+    (does_is (λ i. Arrange (words c.args.witnesses.now) (c.bytes.ensures.entries i) (c.answer_buffer-answer.ensures i)) c.arrange-a.ensures) refl
+    (entries_told _ c.arrange-a.result c.keep_entries.ensures))

@@ -14,4 +14,5 @@ keep_selection-requires c = (c.requires, selection_asked c.plan_given-a.result _
 pub returns : goal.returns
 returns c =
     rw (← c.lists.view_is) (step_planned _
-    (does_is (ap (λ (u : Buffer). Plan c.args.clock (some (given_keys c.args.given.now)) u) c.answer_buffer-answer.ensures) c.plan_given-a.ensures) refl (selection_told _ c.plan_given-a.result c.keep_selection.ensures))
+    (does_is (ap (λ (u : Buffer). Plan c.args.clock (some (given_keys c.args.given.now)) u) c.answer_buffer-answer.ensures) c.plan_given-a.ensures) refl
+    (selection_told _ c.plan_given-a.result c.keep_selection.ensures))

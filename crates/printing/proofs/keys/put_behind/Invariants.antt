@@ -10,4 +10,5 @@ use Rattle.printing.specs.Given.{next_room, behind}
 use Rattle.printing.proofs.keys.put_behind.Given as goal
 
 abbrev pub invariant-loop-i : goal.invariant-loop-i
-invariant-loop-i l = (length l.out ≡ length l.initial.out) × (l.to ≤ l.at + next_room * l.i) × Wrote l.initial.out l.out l.at (behind (key_texts (keys_in l.i (drop (key_bytes * l.first) l.answer)))) l.to
+invariant-loop-i l = (length l.out ≡ length l.initial.out) × (l.to ≤ l.at + next_room * l.i)
+    × Wrote l.initial.out l.out l.at (behind (key_texts (keys_in l.i (drop (key_bytes * l.first) l.answer)))) l.to

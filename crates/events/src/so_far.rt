@@ -9,9 +9,9 @@ pub struct Length {
     ghost in_room: { bytes ≤ line_room },
 }
 
-// What came of a line so far: bytes, or more of them than the buffer holds.
+// What came of a line so far: bytes, or more of them than the buffer holds. (No Option: its None would read as no line, where one is there that is too long.)
 #[derive(Clone, Copy)]
-pub enum Kept {
+pub enum SoFar {
     Whole(Length),
     TooLong,
 }

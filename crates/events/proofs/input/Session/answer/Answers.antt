@@ -1,12 +1,12 @@
--- `events::input::answer` meets its contract: the text, and a line feed.
+-- `events::input::Session::answer` meets its contract: the text, and a line feed.
 use native.Mathlib.Omega.{arith}
 use lib.ListN.{length-set, length-take}
 use Rattle.printing.proofs.Lines.{room_of}
 use Rattle.events.proofs.Bytewise.{fed}
-use Rattle.events.proofs.input.answer.Goals as goal
+use Rattle.events.proofs.input.Session.answer.Goals as goal
 
-pub bounds-out-n : goal.bounds-out-n
-bounds-out-n _ c = omega (arith, room_of c.print-n.ensures)
+pub bounds-self-n : goal.bounds-self-n
+bounds-self-n _ c = omega (arith, room_of c.print-n.ensures)
 
 pub overflow_add-end : goal.overflow_add-end
 overflow_add-end _ c = omega (arith, room_of c.print-n.ensures)

@@ -1,8 +1,8 @@
--- `events::input::take_all` meets its contract. The loop's invariant: what the program keeps is the first i bytes, read.
+-- `events::input::Session::take_all` meets its contract. The loop's invariant: what the program keeps is the first i bytes, read.
 use mathlib.Core.Path.{refl}
 use native.Mathlib.Omega.{arith}
 use Rattle.events.proofs.Bytewise.{took_none, took_one, take_next, took_whole}
-use Rattle.events.proofs.input.take_all.Goals as goal
+use Rattle.events.proofs.input.Session.take_all.Goals as goal
 
 pub loop-b-init : goal.loop-b-init
 loop-b-init _ c = (refl, omega arith, λ p g. took_none g)

@@ -1,9 +1,9 @@
--- `events::input::read_lines` meets its contract. The loop's invariant: what the program keeps is some bytes, read from the start.
+-- `events::input::Session::read_lines` meets its contract. The loop's invariant: what the program keeps is some bytes, read from the start.
 use mathlib.Core.Path.{refl}
 use mathlib.Core.List.{[]}
 use native.Mathlib.Omega.{arith}
 use Rattle.events.proofs.Bytewise.{took_none, took_more}
-use Rattle.events.proofs.input.read_lines.Goals as goal
+use Rattle.events.proofs.input.Session.read_lines.Goals as goal
 
 pub loop-init : goal.loop-init
 loop-init _ c = (refl, record { bytes = []; all = took_none c.requires })
