@@ -53,7 +53,7 @@ module _ (now : ℕ) (rs : List Row) (to : ℕ) where
   -- a row that is ready, k rows behind the a-th
   pub ready_row : {r : Row} (d : Row) (i : ℕ) → i < to → to ≤ length rs → r ≡ get_or rs i d → r.ready ≤ now → (k a : ℕ) → a + k ≡ i → any_ready now (map candidate_at (part a to rs)) ≡ true
   unfolding any_ready candidate_at
-  ready_row {r} d i m h f e zero a q = 
+  ready_row {r} d i m h f e zero a q =
       let q' : a ≡ i = omega (arith, q) in
       rw (part_more rs a to d (omega (arith, q, m)) h, q', ← f, le-leb r.ready now e) refl
   ready_row {r} d i m h f e (suc k) a q =

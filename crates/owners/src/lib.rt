@@ -103,8 +103,8 @@ fn first_wtxid(s: &[u8]) -> usize
 
 // ---- the list
 
-// Stores v as the n-th owner of u. Its tag is the number of its kind and one more: 0 says that nobody owns the hash. (n is the owner's place: the list of hashes says how many owners there are. The tags of cursors are a store's format, these
-// document 02's: `cursors` keeps its own to itself.)
+// Stores v as the n-th owner of u. Its tag is the number of its kind and one more: 0 says that nobody owns the hash. (n is the owner's place: the list of hashes says how many owners
+// there are. The tags of cursors are a store's format, these document 02's: `cursors` keeps its own to itself.)
 fn put_owner(u: &mut [u8], n: usize, v: Option<Owner>)
     requires { owner_bytes * n + owner_bytes ≤ length u.old }
     ensures { u.new ≡ splice u.old (owner_bytes * n) (bytes_of (owner_words v)) }

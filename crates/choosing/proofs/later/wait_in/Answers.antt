@@ -11,11 +11,11 @@ pub loop-i-init : goal.loop-i-init
 loop-i-init c = (c.args.x.order, omega arith, λ f w. waits_none c.args.clock f.rows c.args.x.to c.args.x.to (omega arith))
 
 pub returns-then-r-clock : goal.returns-then-r-clock
-returns-then-r-clock c = λ f w. 
+returns-then-r-clock c = λ f w.
     let z = sizes w in
     none_in c.args.clock (part c.args.x.from c.args.x.to f.rows)
     (ready_row c.args.clock f.rows c.args.x.to c.row_at-r.result (c.loop-i.i - 1) (omega (arith, c.loop-i-test.true)) (omega (arith, c.requires.1, z.rows))
-      (c.row_at-r.ensures f c.row_at-r.result w) c.if-r-clock.true (c.loop-i.i - 1 - c.args.x.from) c.args.x.from (omega (arith, c.loop-i-test.true)))
+    (c.row_at-r.ensures f c.row_at-r.result w) c.if-r-clock.true (c.loop-i.i - 1 - c.args.x.from) c.args.x.from (omega (arith, c.loop-i-test.true)))
 
 pub loop-i-preserved : goal.loop-i-preserved
 loop-i-preserved c = (
