@@ -18,5 +18,5 @@ returns c =
     c.args.i
     c.args.item.kind (quad_number q) t u
     c.requires
-    (omega (arith, c.from.ensures, c.from-t.ensures)) c.from-2.ensures
+    (omega (arith, c.from.ensures, c.from-t.ensures)) c.from-h.ensures
     c.put_record.ensures
