@@ -1,11 +1,11 @@
 pub mod Merging
 pub mod Turns
-pub mod Inserting
 pub mod Halves
 pub mod Copies
 pub mod Slotted
 pub mod SlotTurns
 pub mod SlotHalves
 pub mod Reading
+pub mod InOrder
 pub mod ReadingSlots
 pub mod Gathering
