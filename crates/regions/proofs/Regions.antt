@@ -5,7 +5,7 @@ use mathlib.Core.List.{List, [], ◌∷◌, ◌++◌, append_assoc, append-nil, 
 use native.Mathlib.Nat.{mul-le-mul_left, mul-zero, mul-suc, mul-add, mul_comm, mul-one, add_comm}
 use native.Mathlib.Omega.{arith}
 use lib.ListN.{length, take, drop, get_or, set, replicate, length-append, length-drop, length-replicate, replicate-append-replicate, take-append-drop}
-use lib.Seq.{take-add, take_at, drop_at, take-append-add, split_at, set_split, length-take-le}
+use lib.Seq.{take_all, slice, take-add, take_at, drop_at, take-append-add, split_at, set_split, length-take-le}
 use Rattle.words.specs.Words.{recs, splice, up}
 use Rattle.regions.specs.Regions.{each, padded, Holds, insert_at, remove_at, opened, shut, Inserted, Removed, Replaced, Truncated, Copied, Changed, Found}
 use Rattle.regions.proofs.Gap.{opened_by, splice_in, set_one, opened_at, shut_at, splice_at}
@@ -302,3 +302,11 @@ module _ {A : Type 0} (k : ℕ) (enc : A → List ℕ) (len : (a : A) → length
       let l : length (take k w) ≡ k = length-take-le k w (omega arith) in
       let d : k * n ≤ length (drop k w) = simp length-drop (omega arith) in
       rw (back (take k w) l, each_recs dec back n (drop k w) d, c) (sym (take-add k (k * n) w))
+
+  pub holds_recs : (dec : List ℕ → A) → ((x : List ℕ) → length x ≡ k → enc (dec x) ≡ x) → (n L : ℕ) (w : List ℕ) → length w ≡ k * L → n ≤ L
+      → slice (k * n) (k * L) w ≡ replicate (k * L - k * n) 0 → Holds k enc L (recs k dec n w) w
+  holds_recs dec back n L w l h z =
+      let b : k * n ≤ k * L = mul-le-mul_left k h in
+      let t : length (take (k * n) w) ≡ k * n = length-take-le (k * n) w (omega arith) in
+      let e : take (k * L) w ≡ w = take_all (k * L) w (omega arith) in
+      rw (each_recs dec back n w (omega arith), padded-fit (k * L) (take (k * n) w) (omega arith), t, ← z, e) (sym (take-append-drop (k * n) w))
