@@ -8,8 +8,8 @@ use mathlib.Core.Option.{Option, none, some}
 use native.Mathlib.Omega.{arith}
 use lib.Dec.{eqb}
 use lib.ListN.{length, take, drop}
-use borrow.Author.Tests.{eq-eqb, ne_eqb, eqb-true, eqb-false}
-use Rattle.words.specs.Words.{words, Decides}
+use borrow.Author.Tests.{eqb-true, eqb-false}
+use Rattle.words.specs.Words.{words}
 use Rattle.regions.specs.Order.{Sorted}
 use Rattle.machine.specs.State.{State, Entry}
 use Rattle.machine.specs.Claim.{part_of}
@@ -25,7 +25,6 @@ use Rattle.outcome.specs.Outcome.{Effect, Does}
 use Rattle.std.specs.Prelude.{Result, Ok, Err, IfOk, MatchResult}
 use Rattle.ident.specs.declared.connection.Connection.{Connection}
 use Rattle.outcome.specs.declared.refusal.Refusal.{Refusal}
-use Rattle.outcome.specs.declared.refusal.Refusal.TheVariants.{NotSound}
 use Rattle.outcome.specs.Refusals.{number_of, refusal_in}
 use Rattle.outcome.specs.Tests.{in_turn}
 use Rattle.outcome.proofs.Turns.{never_none, connection_none, connection_some, connection_only}
@@ -34,12 +33,12 @@ use Rattle.public_plans.specs.declared.Selection.{Selection}
 use Rattle.public_plans.specs.Entries.{entries_of, planned_of}
 use Rattle.public_plans.specs.Parts.{connections_in, PartIs}
 use Rattle.public_plans.proofs.Entered.{length_from, length-entries}
-use Rattle.reading.specs.Line.{Line, Asks, Take, Send, Part}
+use Rattle.reading.specs.Line.{Line, Asks, Take, Send}
 use Rattle.asking.specs.Calls.{answer_buffer}
 use Rattle.printing.specs.Replies.{refusal_text, unreadable, listed, entry_texts, selection_text, reply_text}
 use Rattle.printing.specs.Given.{most_entries, Printed}
 use Rattle.printing.specs.Kept.{KeptLists, chosen_or, entries_or}
-use Rattle.printing.specs.Answers.{part_text, Answered, Keeping}
+use Rattle.printing.specs.Answers.{Answered, Keeping}
 use Rattle.keeping.specs.Steps.{Listable, KeptReply, entries_with, planned_with, EntriesKept, SelectionKept, PartRefused}
 use Rattle.printing.proofs.Printing.{reply-refused}
 use Rattle.printing.proofs.Lines.{keeps_unread}
@@ -55,9 +54,6 @@ module _ {o : Option Line} {b b' out out' : List ℕ} {r : ℕ} where
 
     pub step_unread : none ≡ o → b' ≡ b → Printed out out' (refusal_text unreadable) r → Answered o k k b b' out out' r
     step_unread e s t = step_keeps refl (keeps_unread e s t)
-
-  pub step_is : {p : Option Line} {k k' : KeptLists} → p ≡ o → Answered p k k' b b' out out' r → Answered o k k' b b' out out' r
-  step_is {p} {k} {k'} e d = subst (λ (x : Option Line). Answered x k k' b b' out out' r) e d
 
 -- ---- replies that list entries
 
@@ -197,21 +193,7 @@ printed_part n v {l} {first} {count} g s q {out} {out'} {r} t =
     ap (λ (j : ℕ). entries_from v j count) (sym z) ∙ sym (entries_part v first count (length v / entry_bytes) 0 (omega (arith, q.inside, length-entries v))) ∙ a ∙ ap (part_of n) g in
     subst (λ (x : List Entry). Printed out out' (listed (entry_texts x)) r) h t
 
-module _ {k : KeptLists} {b out out' : List ℕ} {r n : ℕ} where
-  step_part : (sound : Bool) → Decides sound (SoundStore b) → Printed out out' (part_text sound n k.arranged) r → Answered (some (Part n)) k k b b out out' r
-  step_part sound d t = record { is = record { kept = refl; store = refl; sound = sound; tested = d; text = t } }
-
-  pub part_refused : (e : Refusal) → PartRefused b n e → Printed out out' (refusal_text (number_of e)) r → Answered (some (Part n)) k k b b out out' r
-  part_refused e (inl h) t = step_part false h.0 (rw h.1 at t)
-  part_refused e (inr h) t = step_part true h.0 (rw (eq-eqb n 0 h.1) (rw h.2 at t))
-
-  pub part_named : {m : ℕ} → 1 ≤ m → SoundStore b → m ≡ n → Printed out out' (listed (entry_texts (part_of m k.arranged))) r → Answered (some (Part n)) k k b b out out' r
-  part_named {m} p w e t = step_part true w (rw (ne_eqb n 0 (λ z. omega (arith, p, e, z))) (rw e at t))
-
--- its two tests
-pub unsound_part : {b : List ℕ} {n : ℕ} {e : Refusal} → (e ≡ NotSound) × (SoundStore b → ⊥) → PartRefused b n e
-unsound_part h = inl (h.1, ap number_of h.0)
-
+-- the test of its connection
 module _ {b : List ℕ} (n : ℕ) where
   unnamed_part : (e : Refusal) → SoundStore b → number_of e ≡ in_turn (n ∷ []) [] 0 0 0 → PartRefused b n e
   unnamed_part e w q =
