@@ -134,8 +134,7 @@ fn look_up(s: &[u8], k: ident::Key, n: Connection, guess: Option<usize>) -> Look
     let from = guess.unwrap_or(rows);
     if from < rows {
         let rest = Window { from, to: rows };
-        let i = store::rows::find_row(s, rest, n.number);
-        if i < rows {
+        if let Some(i) = store::rows::find_row(s, rest, n.number) {
             let r = store::rows::row_at(s, i);
             if regions::Key::from(r) == regions::Key::from(k) {
                 return Lookup {

@@ -5,8 +5,8 @@ use mathlib.Core.Bool.{true, false}
 use borrow.Author.Tests.{eqb-true, eqb-false}
 use Rattle.std.specs.Prelude as std
 use Rattle.std.specs.Prelude.{None, Some}
-use Rattle.std.specs.Option.{MatchOption, unwrap_or}
-use Rattle.regions.specs.Order.{First}
+use Rattle.std.specs.Option.{MatchOption}
+use Rattle.regions.specs.Order.{FoundFirst}
 use mathlib.Core.List.{List, append_assoc}
 use native.Mathlib.Nat.{add-zero, mul_comm}
 use native.Mathlib.Numerals.{towards_suc}
@@ -84,22 +84,24 @@ key-read w i o p q =
     let at : (j : ℕ) → j < row_size → get_or (take row_size (drop (row_size * i) w)) j 0 ≡ get_or w (i * row_size + j) 0 = word_in w row_size i in
     rw (o, p, q) (simp (get_or-drop, at 0 (lit< tt), at 1 (lit< tt), at 2 (lit< tt), at 3 (lit< tt), at 8 (lit< tt)))
 
--- the first that is found among them, or to
-pub first_found : (w : List ℕ) {from to c r : ℕ} → from ≤ to → (o : std.Option ℕ)
+-- the first that is found among them
+pub first_found : (w : List ℕ) {from to : ℕ} (c : ℕ) → from ≤ to → (o : std.Option ℕ)
     → MatchOption o ((k : ℕ) → from ≤ k → k < to → eqb (get_or w (k * row_size + 4) 0) c ≡ false)
     (λ i. (from ≤ i) × (i < to) × (eqb (get_or w (i * row_size + 4) 0) c ≡ true) × ((k : ℕ) → from ≤ k → k < i → eqb (get_or w (k * row_size + 4) 0) c ≡ false))
-    → r ≡ unwrap_or o to → First (recs row_size row_conn to w) from to c r
-first_found w {from} {to} {c} h None p e = rw e (record {
+    → FoundFirst (recs row_size row_conn to w) from to c o
+first_found w {from} {to} c h None p = record {
   least = h;
   most = omega arith;
   found = λ l. absurd (omega arith);
   none = λ j a b z. eqb-false (get_or w (j * row_size + 4) 0) c (p j a b) (sym (row-conn_at w to j b) ∙ z);
-})
-first_found w {from} {to} {c} h (Some i) p e =
-    let l : i < to = p.1 in
-    rw e (record {
-      least = p.0;
-      most = omega arith;
-      found = λ _. row-conn_at w to i l ∙ eqb-true (get_or w (i * row_size + 4) 0) c p.2;
-      none = λ j a b z. eqb-false (get_or w (j * row_size + 4) 0) c (p.3 j a b) (sym (row-conn_at w to j (omega arith)) ∙ z);
-    })
+}
+first_found w {from} {to} c h (Some i) p =
+    let l : i < to = p.1 in (
+      record {
+        least = p.0;
+        most = omega arith;
+        found = λ _. row-conn_at w to i l ∙ eqb-true (get_or w (i * row_size + 4) 0) c p.2;
+        none = λ j a b z. eqb-false (get_or w (j * row_size + 4) 0) c (p.3 j a b) (sym (row-conn_at w to j (omega arith)) ∙ z);
+      },
+      l,
+    )

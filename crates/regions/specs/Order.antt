@@ -1,5 +1,6 @@
 -- Searches, stated over the list of the records' keys as numbers.
 use Rattle.std.specs.Prelude.{ℕ, ◌≤◌, ◌<◌, Bool, ltb, ◌≡◌, List, length, get_or}
+use Rattle.std.specs.Prelude.{Option, Some, None}
 
 -- numbers in order
 unfoldable pub Sorted : List ℕ → Type 0
@@ -27,3 +28,8 @@ pub record First (ks : List ℕ) (from to x r : ℕ) : Type 0 where
   pub most : r ≤ to
   pub none : (j : ℕ) → from ≤ j → j < r → get_or ks j 0 ≡ x → ⊥
   pub found : r < to → get_or ks r 0 ≡ x
+
+-- the same, found or not: no index from .. to, where ks has x nowhere among them
+abbrev pub FoundFirst : List ℕ → ℕ → ℕ → ℕ → Option ℕ → Type 0
+FoundFirst ks from to x None = First ks from to x to
+FoundFirst ks from to x (Some i) = First ks from to x i × (i < to)

@@ -17,7 +17,7 @@ ghost use Rattle.ident.specs.Words.{hash_num};
 ghost use Rattle.regions.specs.Keys.{Words, KeyWords};
 ghost use Rattle.regions.specs.Kinds.{row_kind, row_whole, conn_kind, conn_whole};
 ghost use Rattle.regions.specs.Numbered.{numbered, start_numbered};
-ghost use Rattle.regions.specs.Order.{Sought, IsLowerBound, First};
+ghost use Rattle.regions.specs.Order.{Sought, IsLowerBound, FoundFirst};
 ghost use Rattle.regions.specs.Rows.{row_size, conn_size, quad_words, read_quad, quad_number, row_words, read_row};
 ghost use Rattle.regions.specs.Rows.{key_number, start_number, key_of, row_key, row_conn, conn_words, read_conn, conn_key};
 
@@ -48,8 +48,12 @@ const DEADLINE_AT: usize = 7;
 
 const BITS_AT: usize = 8;
 
-// Words of a connection's entry.
+// Words of a connection's entry, and where behind its number they stand.
 pub const CONN: usize = 3;
+
+const HELD_AT: usize = 1;
+
+const OWNED_AT: usize = 2;
 
 // A hash as four words, w3 the most significant: the words stand in that order, so that the derived one is that of the numbers.
 // (No ident::Hash: an array is a list of any length in the logic, and the laws of records, `sized` and `back`, are of every value.)
@@ -229,15 +233,15 @@ impl WholeRecord for Conn {
     fn read_at(s: &[u8], a: usize) -> Conn {
         Conn {
             conn: words::get(s, a),
-            held: words::get(s, a + 1),
-            owned: words::get(s, a + 2),
+            held: words::get(s, a + HELD_AT),
+            owned: words::get(s, a + OWNED_AT),
         }
     }
 
     fn write_at(self, s: &mut [u8], a: usize) {
         words::put(s, a, self.conn);
-        words::put(s, a + 1, self.held);
-        words::put(s, a + 2, self.owned);
+        words::put(s, a + HELD_AT, self.held);
+        words::put(s, a + OWNED_AT, self.owned);
     }
 
     ghost laws = { conn_whole };
@@ -259,7 +263,7 @@ pub fn key_less(a: Key, b: Key) -> bool
     a < b
 }
 
-// The key of the i-th row.
+// The key of the i-th row. (Five of the row's nine words: `Key::from` takes a row, of all nine.)
 pub fn key_at(s: &[u8], i: usize) -> Key
     requires { 8 * (row_size * (i + 1)) ≤ length s.now }
     ensures { result ≡ key_of (read_row (take row_size (drop (row_size * i) (words s.now)))) }
@@ -351,12 +355,10 @@ pub fn seek_conn(s: &[u8], n: usize, c: u64) -> usize
     )
 }
 
-// The first of the rows from .. to whose connection is c, or `to`.
-pub fn find_conn_in(s: &[u8], from: usize, to: usize, c: u64) -> usize
+// The first of the rows from .. to whose connection is c, if there is one.
+pub fn find_conn_in(s: &[u8], from: usize, to: usize, c: u64) -> Option<usize>
     requires { (from ≤ to) × (8 * (row_size * to) ≤ length s.now) }
-    ensures { First (recs row_size row_conn to (words s.now)) from to c result }
+    ensures { FoundFirst (recs row_size row_conn to (words s.now)) from to c result }
 {
-    (from..to)
-        .find(|&i| words::get(s, i * ROW + CONN_AT) == c)
-        .unwrap_or(to)
+    (from..to).find(|&i| words::get(s, i * ROW + CONN_AT) == c)
 }

@@ -24,7 +24,7 @@ pub fn lower_bound_near<F: Fn(usize) -> bool>(n: usize, guess: usize, falls_shor
     guess
 }
 
-// `seek_row`, which is guessed to be the row `guess`.
+// `seek_row`, which is guessed to be the row `guess`. (The closure stands here and there: a function cannot hand one out.)
 pub fn seek_row_near(s: &[u8], n: usize, start: Bound<Key>, guess: usize) -> usize
     requires { 8 * (row_size * n) ≤ length s.now }
     ensures { Sought (recs row_size row_key n (words s.now)) n (start_number start) result }

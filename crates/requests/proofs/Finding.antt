@@ -12,12 +12,17 @@ use Rattle.machine.specs.Table.{at, has}
 use Rattle.machine.specs.Sound.{Sound}
 use Rattle.store.specs.Flat.{flat_of}
 use Rattle.store.specs.Image.{Writes}
-use Rattle.store.specs.Shown.{rows_in}
+use Rattle.store.specs.Shown.{rows_in, FoundMet}
 use Rattle.store.proofs.RowsAt.{Among, ahead}
-use Rattle.requests.specs.Changes.{Found, Missing, FoundAmong}
+use Rattle.requests.specs.Changes.{Spans, Found, Missing, FoundAmong}
 use Rattle.requests.proofs.Cutting.{ahead_in, found_at}
 use Rattle.requests.proofs.Holding.{holds_by}
 use Rattle.requests.proofs.Keeping.{from_at, to_at}
+
+-- found or not in the window of a key
+pub found_among : {b : List ℕ} {x n from to : ℕ} → Spans b x from to → (r : Option ℕ) → FoundMet b from to n r → FoundAmong b x n r
+found_among {from = from} {to = to} s None m = record { from = from; to = to; spans = s; met = m }
+found_among {from = from} {to = to} s (Some i) m = record { from = from; to = to; spans = s; met = m.0; inside = m.1 }
 
 pub found-within : {b : List ℕ} {x n i : ℕ} → Found b x n i → i < rows_in b
 found-within z = omega (arith, z.spans.most, z.inside)

@@ -90,9 +90,7 @@ fn find_row(s: &[u8], k: regions::Key, n: u64) -> Option<usize>
     requires { Kept s.now }
     ensures { FoundAmong s.now (key_number k) n result }
 {
-    let w = window_of(s, k);
-    let i = store::rows::find_row(s, w, n);
-    if i < w.to { Some(i) } else { None }
+    store::rows::find_row(s, window_of(s, k), n)
 }
 
 // Whether the connection n is a candidate of the request at k.

@@ -2,7 +2,7 @@
 use Prim.Native.Nat.{ℕ, zero, suc, ◌+◌, ◌-◌, ◌*◌, ◌≤◌, ◌<◌}
 use mathlib.Core.Path.{◌≡◌, refl, sym, ap, ◌∙◌}
 use mathlib.Core.Logic.{inl, inr}
-use mathlib.Core.Bool.{Bool, true, ◌&&◌, and-true}
+use mathlib.Core.Bool.{Bool, true, false, ◌&&◌, and-true}
 use mathlib.Core.List.{List, [], ◌∷◌, ◌++◌}
 use native.Mathlib.Omega.{arith}
 use lib.Dec.{ltb, leb, eqb}
@@ -12,11 +12,12 @@ use borrow.Author.Tests.{ltb-true, ltb-false, leb-true, leb-false, eqb-true, eqb
 use Rattle.words.specs.Words.{recs, Decides}
 use Rattle.words.proofs.Records.{recs-add, recs_at}
 use Rattle.regions.specs.declared.Row.{Row}
-use Rattle.regions.specs.Order.{First}
+use Rattle.std.specs.Prelude.{Option, Some, None, is_some}
+use Rattle.regions.specs.Order.{First, FoundFirst}
 use Rattle.regions.specs.Rows.{row_size, read_row, row_conn}
 use Rattle.machine.specs.Table.{one}
 use Rattle.machine.specs.Typed.{Each}
-use Rattle.machine.proofs.Tests.{test}
+use Rattle.machine.proofs.Tests.{test, never}
 use Rattle.store.specs.Flat.{own_bit}
 use Rattle.store.specs.FlatSound.{count_rows, hash_at, owns}
 use Rattle.store.proofs.Counts.{rows_append, rows_all, rows_same}
@@ -199,11 +200,19 @@ module _ (w : List ℕ) (x : ℕ) where
       rw (in-turn w from to (omega arith), by_cons (row_at w from) (rows_in w (from + 1) to)) (omega (arith, some_by d (from + 1) k to (omega arith) h q))
 
   module _ (from to r : ℕ) (f : First (recs row_size row_conn to w) from to x r) where
-    pub first_none : to ≤ r → rows_by x (rows_in w from to) ≡ 0
+    first_none : to ≤ r → rows_by x (rows_in w from to) ≡ 0
     first_none h = none_by (to - from) from to (omega (arith, f.least, f.most)) (λ k a b e. f.none k a (omega arith) (conn-at to k b ∙ e))
 
-    pub first_some : r < to → rows_by x (rows_in w from to) ≡ 0 → ⊥
+    first_some : r < to → rows_by x (rows_in w from to) ≡ 0 → ⊥
     first_some h z = omega (arith, some_by (r - from) from r to (omega (arith, f.least)) h (sym (conn-at to r h) ∙ f.found h))
+
+  pub found-none : {from to : ℕ} {o : Option ℕ} → FoundFirst (recs row_size row_conn to w) from to x o → {y : Bool} → y ≡ is_some o → y ≡ false → rows_by x (rows_in w from to) ≡ 0
+  found-none {from} {to} {None} f e z = first_none from to to f (omega arith)
+  found-none {from} {to} {Some i} f e z = never (sym z ∙ e)
+
+  pub found-some : {from to : ℕ} {o : Option ℕ} → FoundFirst (recs row_size row_conn to w) from to x o → {y : Bool} → y ≡ is_some o → y ≡ true → rows_by x (rows_in w from to) ≡ 0 → ⊥
+  found-some {from} {to} {None} f e z = never (sym e ∙ z)
+  found-some {from} {to} {Some i} f e z = first_some from to i f.0 f.1
 
 -- ---- turns of the loops
 
@@ -257,4 +266,4 @@ module _ {X G R S : Type 0} (v : Iff X G) (g : Iff G (R × S)) where
   off_stop n x = n (g.to (v.to x)).0
 
 -- for the tactic
-pub ruleset parted = (apart_turn, apart_end, first_none)
+pub ruleset parted = (apart_turn, apart_end, found-none)

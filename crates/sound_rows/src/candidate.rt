@@ -11,7 +11,7 @@ fn row_fits(r: regions::Row) -> bool
 {
     let idle = r.owns() | (r.deadline == 0);
     let txid = r.kind() == ident::Kind::Txid;
-    let bare = !r.is_witness() & (r.bits < 16);
+    let bare = !r.is_witness() & !r.is_marked();
     let known = r.bits < 32;
     (r.conn != 0) & known & idle & (txid | bare)
 }

@@ -64,10 +64,10 @@ fn apart(mine: Part, others: Part) -> bool
 {
     for k in mine.from..mine.to {
         let r = mine.rows.get(k);
-        if regions::find_conn_in(mine.rows.bytes, k + 1, mine.to, r.conn) < mine.to {
+        if regions::find_conn_in(mine.rows.bytes, k + 1, mine.to, r.conn).is_some() {
             return false;
         }
-        if regions::find_conn_in(others.rows.bytes, others.from, others.to, r.conn) < others.to {
+        if regions::find_conn_in(others.rows.bytes, others.from, others.to, r.conn).is_some() {
             return false;
         }
     }

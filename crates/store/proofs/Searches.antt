@@ -5,18 +5,19 @@ use mathlib.Core.List.{List, map}
 use native.Mathlib.Omega.{arith}
 use lib.ListN.{length, take, get_or}
 use lib.Seq.{get_or-take}
+use Rattle.std.specs.Prelude.{Option, Some, None}
 use Rattle.words.specs.Words.{recs}
 use Rattle.words.proofs.Records.{take-recs}
 use Rattle.regions.specs.declared.Row.{Row}
 use Rattle.regions.specs.declared.Conn.{Conn}
-use Rattle.regions.specs.Order.{Sorted, Bound, Sought, First}
+use Rattle.regions.specs.Order.{Sorted, Bound, Sought, First, FoundFirst}
 use Rattle.regions.specs.Regions.{Holds}
 use Rattle.regions.specs.Rows.{quad_number, quad_of, row_size, row_words, read_row, row_key, row_conn, conn_size, conn_words, conn_key}
 use Rattle.regions.proofs.Order.{number_quad}
 use Rattle.regions.proofs.Regions.{column}
 use Rattle.places.specs.Places.{Place, place_size, place_words, place_key}
 use Rattle.places.proofs.Columns.{place-keys}
-use Rattle.store.specs.Shown.{row_numbers, row_conns, conn_names, place_hashes}
+use Rattle.store.specs.Shown.{row_numbers, row_conns, conn_names, place_hashes, Met, FoundMet}
 
 module _ (L : ℕ) {w : List ℕ} where
   module _ (rs : List Row) (l : length rs ≤ L) (h : Holds row_size row_words L rs w) where
@@ -51,3 +52,8 @@ module _ (L : ℕ) {w : List ℕ} where
 
     pub place_sought : {n x r : ℕ} → n ≡ length ps → Sought (recs place_size place_key n w) n x r → Sorted (place_hashes ps) → Bound (place_hashes ps) x r
     place_sought e s o = let q = ap (λ j. recs place_size place_key j w) e ∙ place-keys L ps l h ∙ hashes in rw q at (s.bound (rw q o))
+
+-- found or not, if each that is the first among the records is met
+pub found-met : {ks b : List ℕ} {from to x : ℕ} → ((r : ℕ) → First ks from to x r → Met b from to x r) → (o : Option ℕ) → FoundFirst ks from to x o → FoundMet b from to x o
+found-met {to = to} f None p = f to p
+found-met f (Some i) p = (f i p.0, p.1)

@@ -1,5 +1,5 @@
 -- What the functions over a store ask of its bytes, and what they promise of them.
-use Rattle.std.specs.Prelude.{ℕ, ◌+◌, ◌*◌, ◌^◌, ◌≤◌, ◌<◌, ◌≡◌, Result, Ok, Err, List, map, length, get_or}
+use Rattle.std.specs.Prelude.{ℕ, ◌+◌, ◌*◌, ◌^◌, ◌≤◌, ◌<◌, ◌≡◌, Option, Some, None, Result, Ok, Err, List, map, length, get_or}
 use Rattle.words.specs.Words.{words}
 use Rattle.regions.specs.declared.Row.{Row}
 use Rattle.regions.specs.declared.Conn.{Conn}
@@ -129,6 +129,11 @@ pub record Met (b : List ℕ) (from to x r : ℕ) : Type 0 where
   pub least : from ≤ r
   pub most : r ≤ to
   pub first : (f : Flat) → Shows b f → First (row_conns f.rows) from to x r
+
+-- the same, found or not: no row from .. to, where none of them has the connection x
+abbrev pub FoundMet : List ℕ → ℕ → ℕ → ℕ → Option ℕ → Type 0
+FoundMet b from to x None = Met b from to x to
+FoundMet b from to x (Some i) = Met b from to x i × (i < to)
 
 -- ---- the tally
 

@@ -5,7 +5,7 @@ ghost use Rattle.regions.specs.Regions.{remove_range};
 ghost use Rattle.regions.specs.Rows.{start_number};
 ghost use Rattle.store.specs.Flat.{Flat};
 ghost use Rattle.store.specs.Image.{Shows};
-ghost use Rattle.store.specs.Shown.{rows_in, row_numbers, Shown, with_rows, Turns, Seek, Met};
+ghost use Rattle.store.specs.Shown.{rows_in, row_numbers, Shown, with_rows, Turns, Seek, FoundMet};
 
 use crate::{head, layout, parts};
 use std::ops::Bound;
@@ -55,10 +55,10 @@ pub fn seek_row(s: &[u8], start: Bound<regions::Key>) -> usize
     regions::seek_row(&s[layout::rows_part(s)], n, start)
 }
 
-// The first of the rows of a window whose connection is c, or the window's end.
-pub fn find_row(s: &[u8], w: Window, c: u64) -> usize
+// The first of the rows of a window whose connection is c, if there is one.
+pub fn find_row(s: &[u8], w: Window, c: u64) -> Option<usize>
     requires { Shown s.now × (w.to ≤ rows_in s.now) }
-    ensures { Met s.now w.from w.to c result }
+    ensures { FoundMet s.now w.from w.to c result }
 {
     regions::find_conn_in(&s[layout::rows_part(s)], w.from, w.to, c)
 }

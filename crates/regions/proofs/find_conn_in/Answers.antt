@@ -14,7 +14,6 @@ pub returns : goal.returns
 returns c =
     let w = words c.args.s.now in
     let x = c.args.c in
-    first_found w c.requires.0 c.find.result
+    first_found w x c.requires.0 c.find.result
     (first_from_Range _ _ _ c.find.result (λ i. eqb (get_or w (i * row_size + 4) 0) x ≡ true) (λ i. eqb (get_or w (i * row_size + 4) 0) x ≡ false)
     c.find.ensures.ran (λ i q k. search (rules, tests)) (λ i q k. search (rules, tests)))
-    c.unwrap_or.ensures
