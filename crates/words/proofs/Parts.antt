@@ -4,7 +4,7 @@ use mathlib.Core.Path.{◌≡◌, sym, ap, ◌∙◌}
 use mathlib.Core.List.{List, ◌++◌}
 use native.Mathlib.Omega.{arith}
 use lib.ListN.{length, take, drop, length-append, length-take, length-drop}
-use lib.Seq.{drop_at, drop-drop, length-take-le}
+use lib.Seq.{paste, drop_at, drop-drop, length-take-le}
 use Rattle.words.specs.Words.{number, words, up, down}
 use Rattle.words.proofs.Records.{recs-add, recs_front, recs-take, take-recs, drop-recs}
 use Rattle.words.proofs.Words.{length-words}
@@ -29,6 +29,32 @@ unfolding words
 words-drop s k h =
     let e : length (drop (8 * k) s) / 8 ≡ length s / 8 - k = simp length-drop (omega arith) in
     rw e (sym (drop-recs 8 (number 256) k (length s / 8) s (omega arith)))
+
+-- the words of bytes that stand further on as well, as `copy_within` leaves them
+pub words_paste : (s : List ℕ) (to from m : ℕ) → 8 * (to + m) ≤ length s → 8 * (from + m) ≤ length s
+    → words (paste s (to * 8) (drop (from * 8) s) (m * 8)) ≡ paste (words s) to (drop from (words s)) m
+words_paste s to from m h l =
+    let e₁ : to * 8 ≡ 8 * to = omega arith in
+    let e₂ : from * 8 ≡ 8 * from = omega arith in
+    let e₃ : m * 8 ≡ 8 * m = omega arith in
+    let e₄ : 8 * to + 8 * m ≡ 8 * (to + m) = omega arith in
+    let x : List ℕ = drop (8 * from) s in
+    let lx : length x ≡ length s - 8 * from = length-drop (8 * from) s in
+    let l₁ : length (take (8 * to) s) ≡ 8 * to = length-take-le (8 * to) s (omega arith) in
+    let l₂ : length (take (8 * m) x) ≡ 8 * m = length-take-le (8 * m) x (omega arith) in
+    let l₃ : length (take (8 * to) s ++ take (8 * m) x) % 8 ≡ 0 = simp length-append (omega arith) in
+    rw (
+      e₁,
+      e₂,
+      e₃,
+      e₄,
+      words_append (take (8 * to) s ++ take (8 * m) x) (drop (8 * (to + m)) s) l₃,
+      words_append (take (8 * to) s) (take (8 * m) x) (omega arith),
+      words_take s to (omega arith),
+      words_take x m (omega arith),
+      words-drop s from (omega arith),
+      words-drop s (to + m) h,
+    )
 
 -- the words of a part that is lent, `&mut s[a * 8..e * 8]`
 pub words-lent : (s : List ℕ) (a e : ℕ) → a ≤ e → 8 * e ≤ length s

@@ -1,31 +1,35 @@
 -- Zeros stored, and a run of zeros told by the bitwise or of its elements.
-use Prim.Native.Nat.{ℕ, zero, suc, ◌+◌, ◌-◌, ◌≤◌, ◌<◌}
+use Prim.Native.Nat.{ℕ, zero, suc, ◌+◌, ◌-◌, ◌*◌, ◌≤◌, ◌<◌}
 use mathlib.Core.Path.{◌≡◌, refl, sym, ap, ◌∙◌}
-use mathlib.Core.List.{List, [], ◌∷◌, ◌++◌, append_assoc}
-use native.Mathlib.Nat.{add-zero}
+use mathlib.Core.List.{List, [], ◌∷◌, ◌++◌}
 use native.Mathlib.Numerals.{add-one}
 use native.Mathlib.Omega.{arith}
 use lib.Dec.{eqb, eqb-suc-zero}
 use lib.Bits.{bit_or, or_add_and, and_le_l, and_le_r}
-use lib.ListN.{length, take, drop, get_or, set, replicate, length-append, length-take, length-replicate, replicate-append-replicate, take-append-drop}
-use lib.Seq.{slice, slice_empty, length-slice, drop-cons, take-suc, take_at, get_or_at, drop-append-le, set_at, length-take-le}
-use Rattle.words.specs.Words.{splice, Decides}
+use lib.ListN.{length, take, drop, get_or, replicate, length-drop, length-replicate, replicate-append-replicate}
+use lib.Seq.{slice, slice_empty, length-slice, take-suc, take_at, get_or_at, drop-append-le, length-take-le}
+use Rattle.words.specs.Words.{number, recs, words, splice, Decides}
+use Rattle.words.proofs.Parts.{words_append, words_back}
 
-pub clear_none : (w : List ℕ) (a : ℕ) → w ≡ splice w a (replicate 0 0)
-unfolding splice
-clear_none w a = rw add-zero (sym (take-append-drop a w))
+one_word : words (replicate 8 0) ≡ 0 ∷ []
+unfolding words recs number
+one_word = refl
 
-pub clear_turn : (w : List ℕ) {w₁ w₂ : List ℕ} (a k : ℕ) → a + k < length w → w₁ ≡ splice w a (replicate k 0) → w₂ ≡ set w₁ (a + k) 0 → w₂ ≡ splice w a (replicate (k + 1) 0)
+zero_words : (d : ℕ) → words (replicate (8 * d) 0) ≡ replicate d 0
+zero_words zero = unfold words recs in refl
+zero_words (suc d) =
+    let e : 8 * suc d ≡ 8 + 8 * d = omega arith in
+    rw (e, ← replicate-append-replicate {A = ℕ} 8 (8 * d) 0, words_append (replicate 8 0) (replicate (8 * d) 0) refl, one_word, zero_words d) refl
+
+pub cleared : (s p : List ℕ) (a d : ℕ) → 8 * (a + d) ≤ length s → p ≡ replicate (length (take ((a + d) * 8 - a * 8) (drop (a * 8) s))) 0
+    → words (take (a * 8) s ++ (p ++ drop ((a + d) * 8 - a * 8) (drop (a * 8) s))) ≡ splice (words s) a (replicate d 0)
 unfolding splice
-clear_turn w a k h p q =
-    let lz : length (replicate k (zero)) ≡ k = length-replicate k 0 in
-    let f : List ℕ = take a w ++ replicate k 0 in
-    let lf : length f ≡ a + k = simp (length-append, length-take, length-replicate) (omega arith) in
-    let e : replicate {A = ℕ} (k + 1) 0 ≡ replicate k 0 ++ (0 ∷ []) = sym (replicate-append-replicate {A = ℕ} k 1 0) in
-    let l1 : length (replicate {A = ℕ} (k + 1) 0) ≡ k + 1 = length-replicate {A = ℕ} (k + 1) 0 in
-    let g : a + (k + 1) ≡ suc (a + k) = omega arith in
-    let s : set (f ++ drop (a + k) w) (a + k) 0 ≡ f ++ (0 ∷ drop (suc (a + k)) w) = rw (drop-cons w (a + k) 0 h) (set_at f (get_or w (a + k) 0) (drop (suc (a + k)) w) 0 (a + k) lf) in
-    rw (q, p, lz, l1, g, e) (simp append_assoc (simp append_assoc at s))
+cleared s p a d h q =
+    let part : List ℕ = take ((a + d) * 8 - a * 8) (drop (a * 8) s) in
+    let n : length part ≡ 8 * d = length-take-le ((a + d) * 8 - a * 8) (drop (a * 8) s) (simp length-drop (omega arith)) ∙ omega arith in
+    let z : words p ≡ replicate d 0 = rw (q, n) (zero_words d) in
+    let l : length p ≡ length part = rw q (length-replicate (length part) 0) in
+    rw (length-replicate d (zero), ← z) (words_back s p a (a + d) (omega arith) h l)
 
 -- ---- a run of zeros
 

@@ -26,7 +26,7 @@ pub fn get(s: &[u8], i: usize) -> u64
     ])
 }
 
-// Stores v as the i-th word of s. (Byte by byte it compiles to one 8-byte store; with `copy_from_slice` of the eight there is a test whether they overlap s.)
+// Stores v as the i-th word of s. (Byte by byte it compiles to one 8-byte store. Tried with `copy_from_slice` of the eight: a test whether they overlap s stands before each.)
 pub fn put(s: &mut [u8], i: usize, v: u64)
     requires { 8 * i + 8 ≤ length s.old }
     ensures { Put s.old s.new i v }
@@ -43,36 +43,28 @@ pub fn put(s: &mut [u8], i: usize, v: u64)
     s[a + 7] = b7;
 }
 
-// Moves the first m words up by d, the last first. (With a constant d a memmove, as `copy_within` is; with any other `copy_within` is compiled to a loop over bytes.)
+// Moves the first m words up by d. (With a constant d it is compiled to a memmove.)
 pub fn shift_up(s: &mut [u8], m: usize, d: usize)
     requires { (0 < d) × (8 * (m + d) ≤ length s.old) }
     ensures { words s.new ≡ up d (words s.old) 0 m }
 {
-    for k in (0..m).rev() {
-        let v = get(s, k);
-        put(s, k + d, v);
-    }
+    s.copy_within(0..m * 8, d * 8);
 }
 
-// Moves the words d .. m + d down by d, the first first. (Why not `copy_within`: see `shift_up`.)
+// Moves the words d .. m + d down by d.
 pub fn shift_down(s: &mut [u8], m: usize, d: usize)
     requires { 8 * (m + d) ≤ length s.old }
     ensures { words s.new ≡ down d (words s.old) 0 m }
 {
-    for k in 0..m {
-        let v = get(s, k + d);
-        put(s, k, v);
-    }
+    s.copy_within(d * 8..(m + d) * 8, 0);
 }
 
-// Stores d zeros from the word a on. (A memset, as `fill` is; in words it needs no law of the zero bytes of a word.)
+// Stores d zeros from the word a on.
 pub fn clear(s: &mut [u8], a: usize, d: usize)
     requires { 8 * (a + d) ≤ length s.old }
     ensures { words s.new ≡ splice (words s.old) a (replicate d 0) }
 {
-    for k in 0..d {
-        put(s, a + k, 0);
-    }
+    s[a * 8..(a + d) * 8].fill(0);
 }
 
 // Whether the words a .. b are all zero. (No early exit, so that the loop is compiled to vector instructions.)
