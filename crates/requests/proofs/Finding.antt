@@ -20,9 +20,9 @@ use Rattle.requests.proofs.Holding.{holds_by}
 use Rattle.requests.proofs.Keeping.{from_at, to_at}
 
 -- found or not in the window of a key
-pub found_among : {b : List ℕ} {x n from to : ℕ} → Spans b x from to → (r : Option ℕ) → FoundMet b from to n r → FoundAmong b x n r
-found_among {from = from} {to = to} s None m = record { from = from; to = to; spans = s; met = m }
-found_among {from = from} {to = to} s (Some i) m = record { from = from; to = to; spans = s; met = m.0; inside = m.1 }
+pub found_among : {b : List ℕ} {x from to : ℕ} (n : ℕ) → Spans b x from to → (r : Option ℕ) → FoundMet b from to n r → FoundAmong b x n r
+found_among {from = from} {to = to} n s None m = record { from = from; to = to; spans = s; met = m }
+found_among {from = from} {to = to} n s (Some i) m = record { from = from; to = to; spans = s; met = m.0; inside = m.1 }
 
 pub found-within : {b : List ℕ} {x n i : ℕ} → Found b x n i → i < rows_in b
 found-within z = omega (arith, z.spans.most, z.inside)

@@ -206,13 +206,13 @@ module _ (w : List ℕ) (x : ℕ) where
     first_some : r < to → rows_by x (rows_in w from to) ≡ 0 → ⊥
     first_some h z = omega (arith, some_by (r - from) from r to (omega (arith, f.least)) h (sym (conn-at to r h) ∙ f.found h))
 
-  pub found-none : {from to : ℕ} {o : Option ℕ} → FoundFirst (recs row_size row_conn to w) from to x o → {y : Bool} → y ≡ is_some o → y ≡ false → rows_by x (rows_in w from to) ≡ 0
-  found-none {from} {to} {None} f e z = first_none from to to f (omega arith)
-  found-none {from} {to} {Some i} f e z = never (sym z ∙ e)
+  pub found-none : (from to : ℕ) (o : Option ℕ) → FoundFirst (recs row_size row_conn to w) from to x o → {y : Bool} → y ≡ is_some o → y ≡ false → rows_by x (rows_in w from to) ≡ 0
+  found-none from to None f e z = first_none from to to f (omega arith)
+  found-none from to (Some i) f e z = never (sym z ∙ e)
 
-  pub found-some : {from to : ℕ} {o : Option ℕ} → FoundFirst (recs row_size row_conn to w) from to x o → {y : Bool} → y ≡ is_some o → y ≡ true → rows_by x (rows_in w from to) ≡ 0 → ⊥
-  found-some {from} {to} {None} f e z = never (sym e ∙ z)
-  found-some {from} {to} {Some i} f e z = first_some from to i f.0 f.1
+  pub found-some : (from to : ℕ) (o : Option ℕ) → FoundFirst (recs row_size row_conn to w) from to x o → {y : Bool} → y ≡ is_some o → y ≡ true → rows_by x (rows_in w from to) ≡ 0 → ⊥
+  found-some from to None f e z = never (sym e ∙ z)
+  found-some from to (Some i) f e z = first_some from to i f.0 f.1
 
 -- ---- turns of the loops
 

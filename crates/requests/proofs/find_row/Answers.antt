@@ -6,4 +6,4 @@ pub find_row-requires : goal.find_row-requires
 find_row-requires c = (kept_shown c.requires, c.window_of.ensures.most)
 
 pub returns : goal.returns
-returns c = found_among c.window_of.ensures c.find_row.result c.find_row.ensures
+returns c = found_among c.args.n c.window_of.ensures c.find_row.result c.find_row.ensures
