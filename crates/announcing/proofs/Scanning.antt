@@ -1,5 +1,5 @@
 -- A scan of rows for the greatest victim: what each test shows, and what one row more does.
-use Prim.Native.Nat.{ℕ, suc, ◌+◌, ◌-◌, ◌≤◌, ◌<◌}
+use Prim.Native.Nat.{◌%◌, ℕ, suc, ◌+◌, ◌-◌, ◌≤◌, ◌<◌}
 use mathlib.Core.Path.{◌≡◌, refl, sym, ap, ◌∙◌}
 use mathlib.Core.Bool.{Bool, true, false, ◌||◌}
 use mathlib.Core.List.{List}
@@ -10,10 +10,9 @@ use lib.Seq.{drop-cons}
 use borrow.Author.Tests.{lt-ltb, le-ltb, ltb-true}
 use Rattle.std.specs.Prelude as std
 use Rattle.std.specs.Prelude.{if◌then◌else◌, Some, None, is_some}
-use Rattle.ident.specs.Number.{Key}
+use Rattle.ident.specs.Number.{Key, kind_is}
 use Rattle.regions.specs.declared.Row.{Row}
-use Rattle.regions.specs.declared.Key.{Key as RowKey}
-use Rattle.regions.specs.Rows.{quad_number, key_of}
+use Rattle.regions.specs.Rows.{quad_number}
 use Rattle.machine.specs.State.{Entry}
 use Rattle.machine.specs.Announce.{after}
 use Rattle.machine.proofs.Tests.{by_test, never, or_left}
@@ -93,6 +92,6 @@ module _ (rs : List Row) where
 
 -- ---- the key of a row
 
-pub key-read : (r : Row) {k : RowKey} {x : Key} → k ≡ key_of r → x ≡ record { kind = k.kind; hash = quad_number k.hash } → x ≡ key_at r
+pub key-read : (r : Row) {x : Key} → x ≡ record { kind = kind_is (r.bits % 2); hash = quad_number r.hash } → x ≡ key_at r
 unfolding key_at
-key-read r e q = rw (q, e)
+key-read r q = q

@@ -121,9 +121,9 @@ pub fn evictable(s: &[u8]) -> u64
 
 // ---- the victim's key
 
-// The key of a row's request. (A name for the conversions of `regions`: their clauses are of its kind and its hash, this one is of the machine's key, as `store` has it.)
+// The key of a row's request. (A name for the conversion of `regions`, whose clause is of its kind and its hash: this one is of the machine's key, as `store` has it.)
 pub fn key_of(r: regions::Row) -> ident::Key
     ensures { key_num result ≡ key_at r }
 {
-    ident::Key::from(regions::Key::from(r))
+    ident::Key::from(r)
 }

@@ -46,7 +46,7 @@ fn put_item(u: &mut [u8], w: usize, connection: u64, item: ident::Item)
     lent_lists::put_record(u, w + 1, u64::from(u32::from(item.kind)), item.hash);
 }
 
-// Stores three words from the word w on.
+// Stores three words from the word w on. (Three, as an owner and the end of an entry have: over a number of them its clause is of a list, and each call makes an array.)
 pub fn put_three(u: &mut [u8], w: usize, x: u64, y: u64, z: u64)
     requires { 8 * w + 24 ≤ length u.old }
     ensures { u.new ≡ splice u.old (8 * w) (bytes_of (x ∷ y ∷ z ∷ [])) }
@@ -82,6 +82,7 @@ pub fn claim_next(s: &mut [u8], clock: Clock, e: crate::Entry, out: &mut [u8], n
 
 // ---- entries in
 
+// (Of a type from 2^32 = 4294967296 on what is left of it, as `item_from` has it: `lent_lists` reads such an item as an other one.)
 fn item_kind(w: u64) -> ident::ItemKind
     ensures { result ≡ item_kind_of (w % 4294967296) }
 {

@@ -26,6 +26,7 @@ pub struct Entry {
 
 // ---- the entry of a row
 
+// (By arms: a row's bits name no item kind by a number.)
 fn item_kind(r: regions::Row) -> ident::ItemKind
     ensures { result ≡ item_kind_as (kind_is (r.bits % 2)) (r.bits / 2 % 2) }
 {
@@ -41,7 +42,7 @@ impl From<regions::Row> for Entry {
     ghost from_gives = { λ r e. entry_of e ≡ entry_at r };
 
     fn from(r: regions::Row) -> Entry {
-        let key = ident::Key::from(regions::Key::from(r));
+        let key = ident::Key::from(r);
         Entry {
             key,
             candidate: requests::Candidate {

@@ -38,6 +38,7 @@ fn goes(r: regions::Row, p: Span) -> bool
 }
 
 // Takes the rows that go out of the store; answers how many they were.
+// (Part, `retain`, count: one function over `store::parts::Part` would repeat `retain`'s clauses for a store, and places are no `Part`.)
 fn drop_rows(s: &mut [u8], p: Span) -> usize
     requires { Shown s.old }
     ensures { Dropped (stays p.conn p.from p.to) s.old s.new result }

@@ -8,6 +8,7 @@ ghost use Rattle.package_stages.specs.Dead.{filter, live};
 use store::layout;
 
 // Takes every dead place out of the store.
+// (Part, `retain`, count: one function over `store::parts::Part` would repeat `retain`'s clauses for a store, and places are no `Part`.)
 pub fn drop_dead(s: &mut [u8])
     requires { Shown s.old }
     ensures { Turns s.old s.new (λ f. with_places (filter live f.places) f) }

@@ -3,12 +3,12 @@ use Prim.Native.Nat.{ℕ, zero, suc, ◌+◌, ◌*◌, ◌^◌, ◌≤◌, ◌<�
 use mathlib.Core.Path.{◌≡◌, refl, sym, ap, ◌∙◌}
 use mathlib.Core.Logic.{inl, inr}
 use mathlib.Core.List.{List, [], ◌∷◌}
-use native.Mathlib.Nat.{mul_comm, mul-le-mul_right}
+use native.Mathlib.Nat.{mul_comm, mul-suc, mul-le-mul_left, mul-le-mul_right}
 use native.Mathlib.Omega.{arith}
 use lib.Dec.{lit<, ltb}
 use lib.ListN.{length, get_or, take, drop}
 use lib.Seq.{get_or-drop, get_or-take}
-use borrow.Author.Tests.{ltb-true, ltb-false, lt-ltb}
+use borrow.Author.Tests.{ltb-true, ltb-false, lt-ltb, le-ltb}
 use Rattle.std.proofs.Math.Nat.{min-eq_left, min-eq_right, min-le_left}
 use Rattle.ident.specs.declared.Kind.{Kind}
 use Rattle.ident.specs.declared.Kind.TheVariants.{Txid, Wtxid}
@@ -43,6 +43,27 @@ numbered_above n q = number_append (2 ^ 64) (quad_words q) (n ∷ []) ∙ ap (λ
 key_numbered : (k : Key) → key_number k ≡ numbered (kind_number k.kind) k.hash
 unfolding key_number numbered
 key_numbered k = refl
+
+-- ---- of two numbers
+
+numbered_less : (m n : ℕ) (p q : Quad) → Small p → m < n → numbered m p < numbered n q
+numbered_less m n p q s h =
+    let l : top * suc m ≤ top * n = mul-le-mul_left top h in
+    omega (arith, l, mul-suc top m, quad_below p s, numbered_above m p, numbered_above n q)
+
+pub apart_numbered : (m n : ℕ) (p q : Quad) → Small p → Small q → (m ≡ n → ⊥) → ltb m n ≡ ltb (numbered m p) (numbered n q)
+apart_numbered m n p q s t d = elim (test (ltb m n)) [
+  | inl e ↦ e ∙ sym (lt-ltb (numbered m p) (numbered n q) (numbered_less m n p q s (ltb-true m n e)))
+  | inr e ↦
+      let l = numbered_less n m q p t (omega (arith, ltb-false m n e, d)) in
+      e ∙ sym (le-ltb (numbered m p) (numbered n q) (omega (arith, l)))
+]
+
+pub same_numbered : (m n : ℕ) (p q : Quad) → m ≡ n → ltb (quad_number p) (quad_number q) ≡ ltb (numbered m p) (numbered n q)
+same_numbered m n p q d = elim (test (ltb (quad_number p) (quad_number q))) [
+  | inl e ↦ e ∙ sym (lt-ltb (numbered m p) (numbered n q) (rw d (omega (arith, ltb-true (quad_number p) (quad_number q) e, numbered_above n p, numbered_above n q))))
+  | inr e ↦ e ∙ sym (le-ltb (numbered m p) (numbered n q) (rw d (omega (arith, ltb-false (quad_number p) (quad_number q) e, numbered_above n p, numbered_above n q))))
+]
 
 -- ---- of a kind's number
 

@@ -249,7 +249,8 @@ impl WholeRecord for Conn {
 
 // ---- searches
 
-// Whether the hash a is the smaller number: the derived order, which by this clause is that of the numbers.
+// Whether the hash a is the smaller number: the derived order, which by this clause is that of the numbers. (Callers take it for that clause: `<` says an order of
+// fields, and each would cite the law.)
 pub fn quad_less(a: Quad, b: Quad) -> bool
     ensures { result ≡ ltb (quad_number a) (quad_number b) }
 {
@@ -307,6 +308,16 @@ pub fn start_at(start: Bound<(u64, Quad)>) -> Bound<Key>
         Bound::Included(_) | Bound::Excluded(_) => BEHIND_ALL,
         Bound::Unbounded => Bound::Unbounded,
     }
+}
+
+// Whether a hash under any number for a kind comes before another one, as `key_less` says it of keys. (By the fields: of pairs the derived order would want the law of `Quad`'s again.)
+pub fn numbered_less(a: (u64, Quad), b: (u64, Quad)) -> bool
+    ensures { result ≡ ltb (numbered a.0 a.1) (numbered b.0 b.1) }
+{
+    if a.0 != b.0 {
+        return a.0 < b.0;
+    }
+    quad_less(a.1, b.1)
 }
 
 // Binary search, whose steps are no range: the first of the indices below n that does not fall short, or n.

@@ -30,6 +30,7 @@ pub fn count_off(s: &mut [u8], x: u64, o: u64)
 }
 
 // Takes every entry of no row out of the tally.
+// (Part, `retain`, count: one function over `store::parts::Part` would repeat `retain`'s clauses for a store, and places are no `Part`.)
 pub fn drop_idle(s: &mut [u8])
     requires { Shown s.old }
     ensures { Turns s.old s.new (λ f. with_conns (filter busy f.conns) f) }

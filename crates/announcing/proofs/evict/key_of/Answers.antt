@@ -1,5 +1,6 @@
+-- `announcing::evict::key_of` meets its contract.
 use Rattle.announcing.proofs.Scanning.{key-read}
 use Rattle.announcing.proofs.evict.key_of.Goals as goal
 
 pub returns : goal.returns
-returns c = key-read c.args.r c.from.ensures c.from-2.ensures
+returns c = key-read c.args.r c.from.ensures
