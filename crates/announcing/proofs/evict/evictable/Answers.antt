@@ -1,22 +1,34 @@
-use mathlib.Core.List.{[]}
+use Prim.Native.Nat.{◌+◌}
+use mathlib.Core.Path.{◌≡◌, refl}
 use native.Mathlib.Omega.{arith}
-use lib.ListN.{get_or}
-use Rattle.std.proofs.Common.{rules, tests}
-use Rattle.std.proofs.lemmas.Iterator.{serves_from_Range, YieldsList-from_range}
-use Rattle.std.proofs.lemmas.Iterator.Consumers.{count_from_yields_List, YieldsList-from_filter, YieldsList-at}
-use Rattle.regions.specs.Rows.{read_row}
-use Rattle.store.specs.Flat.{flat_of, rows_of}
-use Rattle.requests.proofs.Keeping.{kept_shown}
-use Rattle.announcing.proofs.Counted.{counted, goes, goes_read}
+use Rattle.machine.specs.Table.{one}
+use Rattle.machine.proofs.Owning.{one_most}
+use Rattle.store.specs.Flat.{flat_of}
+use Rattle.store.specs.FlatSound.{count_rows}
+use Rattle.store.proofs.Frame.{sizes}
+use Rattle.announcing.proofs.Counted.{goes, goes_one, stays_none, counted_turn, counted}
 use Rattle.announcing.proofs.evict.evictable.Goals as goal
+use Rattle.announcing.proofs.evict.evictable.Goals.{then-not-stays, else-not-stays}
 
-pub count-requires-clause-can : goal.count-requires-clause-can
-count-requires-clause-can c = (tt, tt, serves_from_Range (λ j q k. search (rules, tests)) (λ j o l. search (rules, tests, kept_shown, c.rows-n.ensures)))
+pub loop-i-init : goal.loop-i-init
+loop-i-init c = (omega arith, omega arith, λ f w. unfold count_rows in refl)
+
+pub loop-i-preserved : goal.loop-i-preserved
+loop-i-preserved c =
+    let r = c.row_at-r.result in
+    let m = c.loop-i.m in
+    let e = c.stays.ensures in
+    let q : c.if-not-stays.m ≡ m + one (goes r) = elim c.if-not-stays.branch [
+      | then-not-stays w ↦ goes_one r e m w.if-not-stays.true w.m-is
+      | else-not-stays w ↦ stays_none r e m w.if-not-stays.false w.m-is
+    ] in (
+      omega arith,
+      omega (arith, q, one_most (goes r), c.loop-i.invariant.1),
+      λ f w.
+          let z = sizes w in
+          counted_turn f.rows r (omega (arith, c.rows-n.ensures.field f w, c.loop-i-test.true))
+          (c.row_at-r.ensures f r w) (c.loop-i.invariant.2 f w) q,
+    )
 
 pub returns : goal.returns
-returns c = λ st s w.
-    let n = c.rows-n.result in
-    counted st.table (read_row []) (omega (arith, c.rows-n.ensures.field (flat_of st) w))
-    (count_from_yields_List _ c.count.result c.count.ensures.ran
-    (YieldsList-from_filter _ (λ i. goes (get_or (rows_of st.table) i (read_row []))) (YieldsList-at c.filter.ensures.source (YieldsList-from_range 0 n n (cc) (omega arith))) c.filter.ensures.closure
-    (λ x r q k. (search rules, search (rules, goes_read (read_row []) w)))))
+returns c = λ st s w. counted st.table c.loop-i.i (omega (arith, c.rows-n.ensures.field (flat_of st) w)) (c.loop-i.invariant.2 (flat_of st) w)
