@@ -28,6 +28,7 @@ impl From<Named<ident::Kind>> for ident::Key {
 }
 
 // A key as rows have it.
+// (A key of a line is no regions::Key: an item of the same two fields would have a struct of its own beside it.)
 impl From<Named<ident::Kind>> for regions::Key {
     ghost from_gives = { λ n k. k ≡ record { kind = n.kind; hash = n.hash } };
 
@@ -226,6 +227,7 @@ fn other_kind(f: &[u8]) -> Option<ident::ItemKind>
 }
 
 // An other item, of which f is what stands behind the letter.
+// (By `find`, whose clause is of what stands before the colon, as the definition's: `position` would tell an index.)
 #[tactic(auto, unfolding(machine::specs::Fields::behind))]
 fn other_item(f: &[u8]) -> Option<Named<ident::ItemKind>>
     ensures { item_in result ≡ other_of f.now }
@@ -273,6 +275,7 @@ pub fn field_end(line: &[u8], from: usize) -> usize
     find(line, from, b',')
 }
 
+// (The library's test, which by this clause is that of the texts.)
 pub fn same(s: &[u8], t: &[u8]) -> bool
     ensures { result ≡ same_text s.now t.now }
 {

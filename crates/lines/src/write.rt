@@ -48,6 +48,7 @@ fn without_digit(q: regions::Quad) -> regions::Quad
     }
 }
 
+// (No one function for numbers and hashes: a trait of both would have last digit, rest, room and their laws, longer than the second.)
 pub fn put_hash(s: &mut [u8], a: usize, q: regions::Quad) -> usize
     requires { a + hash_digits ≤ length s.old }
     ensures { Wrote s.old s.new a (hexadecimal (quad_number q)) result }
@@ -81,6 +82,7 @@ pub fn kind_letter(k: ident::Kind) -> u8
     }
 }
 
+// (Kind and hash apart: of its two callers one has a key, the other an owner's kind beside a hash.)
 pub fn put_key(s: &mut [u8], a: usize, k: ident::Kind, q: regions::Quad) -> usize
     requires { a + (1 + hash_digits) ≤ length s.old }
     ensures { Wrote s.old s.new a (key_text (record { kind = k; hash = quad_number q })) result }
