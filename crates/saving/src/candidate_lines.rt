@@ -34,7 +34,7 @@ fn put_candidate(out: &mut [u8], at: usize, r: regions::Row) -> usize
     put_text(out, e, b"\n")
 }
 
-// Those of the rows from .. to.
+// Those of the rows from .. to. (Two numbers: the walk's own index, and where the request's rows end. A `Window` would be made of them for this one call.)
 pub fn put_candidates(s: &[u8], out: &mut [u8], at: usize, from: usize, to: usize) -> usize
     requires { Shown s.now × (from ≤ to) × (to ≤ rows_in s.now) × (at + candidate_room * to ≤ farthest + candidate_room * from) }
     ensures { (result + candidate_room * from ≤ at + candidate_room * to)

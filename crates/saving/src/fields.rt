@@ -32,6 +32,7 @@ pub fn put_text(out: &mut [u8], at: usize, t: &[u8]) -> usize
     e
 }
 
+// (`put_hash` has this shape: over room and writer each call would have to give both.)
 pub fn put_number(out: &mut [u8], at: usize, n: u64) -> usize
     requires { at + decimal_digits ≤ farthest }
     ensures { (result ≤ at + decimal_digits) × Lays out.old out.new at (decimal n) result }
