@@ -53,6 +53,7 @@ fn field_at<T, F: FnOnce(&[u8]) -> Option<T>>(line: &[u8], e: usize, parse: F) -
     Some(Parsed { value, end })
 }
 
+// (A function for each value, here and below: its contract names the value, and callers name no parser.)
 pub fn number_at(line: &[u8], e: usize) -> Option<Parsed<u64>>
     ensures { FieldRead number_of line.now e (number_at result) }
 {
