@@ -54,6 +54,7 @@ fn append_place(
 
 // ---- what a line says of its place
 
+// (No From: both types are other crates'.)
 fn stage_of(p: Option<Package>) -> Stage
     ensures { (ws : List ℕ) → stage_word (Some result) ≡ stage_for (package_of ws p) }
 {
@@ -77,6 +78,7 @@ fn wtxid_count(p: Option<Package>) -> usize
 }
 
 // The place of a request's line, if it has one, behind the others.
+// (Two slices: of the `Lists` that a line is read into it needs what stands in them, and not that they may be written.)
 pub fn add_place(s: &mut [u8], r: Request, wtxids: &[u8], parents: &[u8])
     requires { PlaceRoom s.old (request_in wtxids.now parents.now r) × (list_room ≤ length wtxids.now) × (list_room ≤ length parents.now) }
     ensures { Turns s.old s.new (λ f. with_places (f.places ++ places_for (request_in wtxids.now parents.now r)) f) }
