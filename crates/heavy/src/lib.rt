@@ -40,6 +40,7 @@ fn lower(counters: &mut [Counter])
     }
 }
 
+// (That the counts' sum is below 2^63 stays a clause: a type of it would hold the lent counters, and each contract say that the reference stays.)
 // First pass: x is met.
 pub fn note(counters: &mut [Counter], x: u64)
     requires { sum (counts_in counters.old) < 2 ^ 63 }
