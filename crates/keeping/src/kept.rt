@@ -120,6 +120,7 @@ impl Model for Lists {
 }
 
 impl Lists {
+    // The three of them as one. (Public, as `EntryList::none` is, so that who keeps lists of its own can make them.)
     pub fn of(plan: EntryList, taken: EntryList, arranged: EntryList) -> Lists
         requires { Sorted (connections_in arranged) }
         ensures { result ≡ record { plan = plan; taken = taken; arranged = arranged } }
