@@ -33,6 +33,7 @@ pub struct Request {
 }
 
 // A candidate's line; `preferred` is one of its fields, with no value behind it.
+// (Kind and hash one by one, as the tests of a candidate take them. `requests::Candidate` is of a store, as `Owner` of package_stages is.)
 #[derive(Clone, Copy)]
 pub struct Candidate {
     pub connection: u64,
@@ -118,10 +119,7 @@ fn line_in(line: &[u8], lists: &mut Lists) -> Line
     if let Some(r) = read_request(line, lists) {
         return Line::Request(r);
     }
-    match read_candidate(line) {
-        Some(c) => Line::Candidate(c),
-        None => Line::Not,
-    }
+    read_candidate(line).map_or(Line::Not, Line::Candidate)
 }
 
 // The line that starts at an index; it ends behind its line feed.

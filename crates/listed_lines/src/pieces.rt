@@ -58,11 +58,7 @@ pub fn maybe_at<T, F: FnOnce(&[u8], usize) -> Option<Parsed<T>>>(
     if let Some(end) = none_at(line, e) {
         return Some(Parsed { value: None, end });
     }
-    let found = there(line, e)?;
-    Some(Parsed {
-        value: Some(found.value),
-        end: found.end,
-    })
+    Some(there(line, e)?.map(Some))
 }
 
 pub fn maybe_number_at(line: &[u8], e: usize) -> Option<Parsed<Option<u64>>>
