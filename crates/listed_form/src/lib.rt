@@ -31,10 +31,8 @@ pub fn comes_before(a: regions::Key, b: regions::Key) -> bool
 fn meets_key(last: Option<regions::Key>, key: regions::Key) -> Option<regions::Key>
     ensures { met_if result ≡ meets_key (met_of last) (key_in key) }
 {
-    if let Some(k) = last {
-        if comes_before(key, k) {
-            return None;
-        }
+    if last.is_some_and(|k| comes_before(key, k)) {
+        return None;
     }
     Some(key)
 }
