@@ -38,6 +38,7 @@ fn same_quad(a: regions::Quad, b: regions::Quad) -> bool
 }
 
 // Whether an item of this kind gives a key of that kind.
+// (By arms: `ident` hands out the key of an item, and no kind.)
 fn gives(item: ident::ItemKind, kind: ident::Kind) -> bool
     ensures { result ≡ kind_is kind (kind_of item) }
 {

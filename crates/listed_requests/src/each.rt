@@ -25,10 +25,7 @@ pub struct Pass {
 fn rises(p: Pass, key: regions::Key) -> bool
     ensures { result ≡ leb (lowest_of p) (place (key_in key)) }
 {
-    match p.last {
-        None => true,
-        Some(last) => comes_before(last, key),
-    }
+    p.last.is_none_or(|last| comes_before(last, key))
 }
 
 // A flag or a package takes a place.
@@ -39,6 +36,7 @@ fn place_of(r: Request) -> u64
 }
 
 // The next request: what is known behind it, if it passes.
+// (limit and places go as document 01's opening has L and Q.)
 fn advance(lines: &mut Lines, p: Pass, limit: u64, places: u64, room: &mut Room) -> Option<Pass>
     requires { (lines.old.at < length lines.old.text.now) × Within limit places p }
     ensures same { lines.new.text ≡ lines.old.text }

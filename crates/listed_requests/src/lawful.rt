@@ -42,10 +42,7 @@ fn packs(r: Request) -> bool
 fn owner_stands(o: Option<Owner>, conns: &[u64]) -> bool
     ensures { result ≡ owner_among (owner_of o) conns.now }
 {
-    match o {
-        None => true,
-        Some(o) => stands(conns, o.connection),
-    }
+    o.is_none_or(|o| stands(conns, o.connection))
 }
 
 // What a request's line says. Its parents stand in the lent bytes.
