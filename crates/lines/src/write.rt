@@ -29,9 +29,7 @@ fn is_digit(q: regions::Quad) -> bool
 {
     let sixteen = regions::Quad {
         w0: 16,
-        w1: 0,
-        w2: 0,
-        w3: 0,
+        ..regions::Quad::ZERO
     };
     regions::quad_less(q, sixteen)
 }
