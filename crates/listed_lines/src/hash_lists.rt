@@ -15,10 +15,7 @@ pub fn list_at(line: &[u8], e: usize, least: u64, hashes: &mut [u8]) -> Option<P
     ensures { Took (list_then short least longest_list) line.now (rest line.now (e + 1)) (list_at hashes.new result) }
 {
     let count = number_at(line, e)?;
-    if count.value < least {
-        return None;
-    }
-    if (MAX_PARENTS as u64) < count.value {
+    if count.value < least || (MAX_PARENTS as u64) < count.value {
         return None;
     }
     let value = count.value as usize;

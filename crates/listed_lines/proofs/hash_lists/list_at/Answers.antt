@@ -5,15 +5,16 @@ use Rattle.reading.specs.Given.{number_at}
 use Rattle.listed_lines.proofs.Anywhere.{number_took, hashes_at, hashes_took}
 use Rattle.listed_lines.proofs.Lists.{no_length, too_short, too_long, no-hashes, hashes-are}
 use Rattle.listed_lines.proofs.hash_lists.list_at.Goals as goal
+use Rattle.listed_lines.proofs.hash_lists.list_at.Goals.{then-count-least-via-then-count-least, then-count-least-via-else-count-least+then-count}
 
 pub returns-in_err-count : goal.returns-in_err-count
 returns-in_err-count c = rw c.from_residual.ensures (no_length _ (number_took number_of c.number_at.ensures) (ap number_at c.in_err-count.was))
 
 pub returns-then-count-least : goal.returns-then-count-least
-returns-then-count-least c = too_short _ (number_took number_of c.number_at.ensures) (ap number_at c.in_ok-count.was) c.if-count-least.true
-
-pub returns-then-count : goal.returns-then-count
-returns-then-count c = too_long _ (number_took number_of c.number_at.ensures) (ap number_at c.in_ok-count.was) c.if-count.true
+returns-then-count-least c = elim c.then-count-least.branch [
+  | then-count-least-via-then-count-least w ↦ too_short _ (number_took number_of c.number_at.ensures) (ap number_at c.in_ok-count.was) w.if-count-least.true
+  | then-count-least-via-else-count-least+then-count w ↦ too_long _ (number_took number_of c.number_at.ensures) (ap number_at c.in_ok-count.was) w.if-count.true
+]
 
 pub returns-in_err-end : goal.returns-in_err-end
 returns-in_err-end c =
