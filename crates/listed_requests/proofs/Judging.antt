@@ -4,6 +4,7 @@ use mathlib.Core.Path.{◌≡◌, refl, sym, ap, ◌∙◌}
 use mathlib.Core.Bool.{Bool, true, false, ◌&&◌}
 use mathlib.Core.List.{List, [], ◌∷◌}
 use mathlib.Core.Option.{Option, none, some}
+use mathlib.Core.Logic.{inl, inr}
 use native.Mathlib.Omega.{arith}
 use lib.Dec.{ltb, leb, eqb}
 use lib.ListN.{length, take}
@@ -21,7 +22,8 @@ use Rattle.machine.specs.Table.{has}
 use Rattle.machine.specs.Claim.{elem, same_kind}
 use Rattle.machine.specs.Listing.{Rest, Every, Whenever, HashesListed, OwnerListed, PackageListed, RequestListed}
 use Rattle.machine.specs.SoundTest.{hashes_fit, no_repeat, all_fit, owner_fits, package_fits, parents_fit, is_empty, is_packed, mark_fits, is_lawful}
-use Rattle.machine.proofs.Tests.{never}
+use Rattle.std.specs.Bool.{then_some}
+use Rattle.machine.proofs.Tests.{test, never}
 use Rattle.heavy.specs.Streams.{connections_of}
 use Rattle.listed_lines.specs.declared.line.Request as line-request
 use Rattle.listed_lines.specs.declared.parts.Owner as parts-owner
@@ -219,10 +221,10 @@ module _ {b : List ℕ} {from : ℕ} {ps : List ℕ} {r : line-request.Request} 
           ∙ few_are ws ps r l q.candidates (sym (t.is ws l) ∙ e) (omega (arith, v.count, a.all.bound)) v.fit (once ∙ ap no_repeat v.connections)
           (owner ∙ ap (owner_among (owner_of r.owner)) v.connections)
 
-      pub judged-unfit : (((g.fit && n) && o) && ltb 0 g.count) ≡ false → Judged b from ps r None end
+      judged-unfit : (((g.fit && n) && o) && ltb 0 g.count) ≡ false → Judged b from ps r None end
       judged-unfit d = record { on = a.on; lawful = tt; unlawful = λ z ws q y l. sym (one_fit ws q y l) ∙ d }
 
-      pub judged_fit : (((g.fit && n) && o) && ltb 0 g.count) ≡ true → Judged b from ps r (Some g.count) end
+      judged_fit : (((g.fit && n) && o) && ltb 0 g.count) ≡ true → Judged b from ps r (Some g.count) end
       judged_fit d = record {
         on = a.on;
         lawful = record {
@@ -233,3 +235,9 @@ module _ {b : List ℕ} {from : ℕ} {ps : List ℕ} {r : line-request.Request} 
         };
         unlawful = λ z. never (sym z);
       }
+
+      pub judged-by : {k : Maybe ℕ} → k ≡ then_some (((g.fit && n) && o) && ltb 0 g.count) g.count → Judged b from ps r k end
+      judged-by e = rw e (elim (test (((g.fit && n) && o) && ltb 0 g.count)) [
+        | inl t ↦ rw t (judged_fit t)
+        | inr t ↦ rw t (judged-unfit t)
+      ])

@@ -6,7 +6,7 @@ ghost use Rattle.machine.specs.SoundTest.{mark_fits};
 ghost use Rattle.listed_lines.specs.Given.{list_room, owner_of};
 ghost use Rattle.listed_requests.specs.Given.{packs, owner_among, LineFits, Judged};
 
-use crate::candidates::{Room, gather};
+use crate::candidates::{Gathered, Room, gather};
 use crate::distinct::{all_distinct, hashes_distinct, stands};
 use listed_lines::cursor::{Lines, Lists};
 use listed_lines::line::Request;
@@ -70,15 +70,11 @@ pub fn judge(lines: &mut Lines, r: Request, room: &mut Room) -> Option<usize>
     if !line_fits(r, &room.lists) {
         return None;
     }
-    let g = gather(lines, r.key, 0, room)?;
-    let count = g.count;
-    let conns = &mut *room.conns;
-    let once = all_distinct(&conns[..count]);
-    let owner = owner_stands(r.owner, &conns[..count]);
+    let Gathered { count, fit } = gather(lines, r.key, 0, room)?;
+    let conns = &room.conns[..count];
+    let once = all_distinct(conns);
+    let owner = owner_stands(r.owner, conns);
     // (`&`: each of them is known here, so that there is one way through and not four.)
-    let fit = g.fit & once & owner & (0 < count);
-    if !fit {
-        return None;
-    }
-    Some(count)
+    let fit = fit & once & owner & (0 < count);
+    fit.then_some(count)
 }
