@@ -25,8 +25,7 @@ fn take_line(s: &mut [u8], last: Option<Request>, l: Line, lists: &Lists) -> Opt
     ensures { TakesLine s.old s.new lists.now.wtxids.now lists.now.parents.now last l result }
 {
     match l {
-        Line::Not => last,
-        Line::Head(_) => last,
+        Line::Not | Line::Head(_) => last,
         Line::Request(q) => {
             new_places::add_place(s, q, lists.wtxids, lists.parents);
             Some(q)
