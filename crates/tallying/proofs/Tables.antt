@@ -1,18 +1,18 @@
 -- The entries of a region, counted one after the other into the table at their front.
-use Prim.Native.Nat.{ℕ, suc, ◌+◌, ◌-◌, ◌*◌, ◌%◌, ◌≤◌, ◌<◌}
+use Prim.Native.Nat.{ℕ, suc, ◌+◌, ◌-◌, ◌%◌, ◌≤◌, ◌<◌}
 use mathlib.Core.Path.{◌≡◌, refl, sym, ap, subst, ◌∙◌}
 use mathlib.Core.Bool.{Bool, true, false}
 use mathlib.Core.List.{List, [], ◌∷◌, ◌++◌, map-append}
 use native.Mathlib.Omega.{arith}
-use lib.ListN.{length, take, drop, get_or, set, replicate, length-append, length-set, length-map}
+use lib.ListN.{length, take, drop, get_or, set, length-append, length-set, length-map}
 use lib.Seq.{take_at, take_all, length-take-le, get_or-take, get_or-drop, drop-drop, drop-append-add, drop-set-lt, set-append_left}
-use Rattle.words.specs.Words.{recs, splice}
+use Rattle.words.specs.Words.{recs}
 use Rattle.words.proofs.Records.{take-recs}
 use Rattle.regions.specs.declared.Conn.{Conn}
 use Rattle.regions.specs.Order.{Bound, Sought}
-use Rattle.regions.specs.Regions.{insert_at, Found, Replaced, Inserted}
+use Rattle.regions.specs.Regions.{insert_at, Found, Replaced, Inserted, Truncated}
 use Rattle.regions.specs.Rows.{conn_size, conn_words, read_conn, conn_key}
-use Rattle.regions.proofs.Regions.{column, truncated}
+use Rattle.regions.proofs.Regions.{column}
 use Rattle.machine.specs.Typed.{Each}
 use Rattle.store.specs.Flat.{bump}
 use Rattle.store.specs.Shown.{conn_names}
@@ -160,13 +160,12 @@ pub collecting_none : (w : List ℕ) (n : ℕ) → Collecting w w n 0 0
 collecting_none w n = record { short = omega arith; most = omega arith; parts = λ L cs e l h. partly_none L cs h }
 
 module _ {w₀ w : List ℕ} {n m j : ℕ} (p : Collecting w₀ w n m j) where
-  pub collecting_done : {w₁ : List ℕ} → j ≡ n → conn_size * n ≤ length w → w₁ ≡ splice w (m * conn_size) (replicate ((n - m) * conn_size) 0) → Settled w₀ w₁ n m
+  pub collecting_done : {w₁ : List ℕ} → j ≡ n → Truncated conn_size conn_words w w₁ n m → Settled w₀ w₁ n m
   unfolding conn_words
-  collecting_done {w₁} e l q = record {
+  collecting_done {w₁} e t = record {
     most = omega (arith, p.short);
     all = λ L cs n' f h.
         let z = p.parts L cs n' f h in
-        let t = truncated conn_size conn_words (λ r. refl) w m n (omega (arith, p.short)) l q in
         let a : z.table ≡ counted [] cs = z.counts ∙ ap (counted []) (take_all j cs (omega arith)) in
         let held = t.region L (z.table ++ z.rest) (z.long ∙ n') z.holds in
         let k : take m (z.table ++ z.rest) ≡ counted [] cs = take_at z.table z.rest m z.many ∙ a in

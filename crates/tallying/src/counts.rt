@@ -6,8 +6,8 @@ ghost use Rattle.regions.specs.Rows.{conn_size};
 ghost use Rattle.tallying.specs.Entries.{Underway, EntryAt, Counts, Filled, Settled};
 
 use crate::heap;
+use regions::Conn;
 use regions::listed::Records;
-use regions::{CONN, Conn};
 
 // Whether there is a p-th entry, and it is x's.
 fn is_entry(table: Records<Conn>, p: usize, x: u64) -> bool
@@ -29,9 +29,9 @@ fn count(r: &mut [u8], m: usize, j: usize) -> usize
     if is_entry(Records::new(r, m), p, c.conn) {
         let e = regions::read::<Conn>(r, p);
         let d = Conn {
-            conn: e.conn,
             held: e.held + 1,
             owned: e.owned + o,
+            ..e
         };
         regions::write(r, p, d);
         return m;
@@ -54,7 +54,7 @@ fn collect(r: &mut [u8], n: usize) -> usize
     for j in 0..n {
         m = count(r, m, j);
     }
-    words::clear(r, m * CONN, (n - m) * CONN);
+    regions::truncate::<Conn>(r, n, m);
     m
 }
 

@@ -1,7 +1,6 @@
 -- `tallying::counts::collect` meets its contract.
 use mathlib.Core.Path.{refl}
 use native.Mathlib.Omega.{arith}
-use Rattle.words.proofs.Words.{length-words}
 use Rattle.tallying.proofs.Tables.{collecting_none, collecting_done}
 use Rattle.tallying.proofs.counts.collect.Goals as goal
 
@@ -9,12 +8,4 @@ pub loop-j-init : goal.loop-j-init
 loop-j-init c = (collecting_none _ _, refl)
 
 pub returns : goal.returns
-returns c = collecting_done c.loop-j.invariant.0 (omega
-    (arith, c.loop-j.invariant.0.most, c.loop-j-test.false)) (omega (
-      arith,
-      length-words
-          c.loop-j.r,
-      c.requires.0,
-      c.loop-j.invariant.1,
-    ))
-    c.clear.ensures
+returns c = collecting_done c.loop-j.invariant.0 (omega (arith, c.loop-j.invariant.0.most, c.loop-j-test.false)) c.truncate.ensures
