@@ -41,7 +41,7 @@ pub struct Guesses<'a> {
     ghost roomy: { mask + 1 + mask / 4 < length slots.now },
 }
 
-// Whether the i-th entry is x's. (tallying has the same test of a table that is being filled, with a clause of that.)
+// Whether the i-th entry is x's. (tallying has the same test. Its clause is of every list of entries that the words may hold, this one of `names`, and each proof takes it so.)
 #[tactic(auto, using(crate::proofs::Entries::is_name))]
 fn is_entry(conns: Records<Conn>, i: usize, x: u64) -> bool
     ensures { Decides result ((i < conns.entry.count) × (get_or (names conns.entry.count (words conns.entry.bytes.now)) i 0 ≡ x)) }
@@ -53,7 +53,7 @@ fn is_entry(conns: Records<Conn>, i: usize, x: u64) -> bool
 fn windowed(m: usize) -> usize
     ensures { (result ≤ m) × (result ≤ many) }
 {
-    if m < MANY { m } else { MANY }
+    m.min(MANY)
 }
 
 // ---- the search
@@ -110,7 +110,7 @@ fn seek_entry(pass: Pass, x: u64) -> usize
 
 // ---- the slots
 
-// (Spread by a factor for each of its halves.)
+// (Spread by an odd factor for each of its halves; the low 28 bits of the sum go.)
 fn spread(x: u64, way: Way) -> u64 {
     match way {
         Way::Plain => x,
@@ -155,18 +155,17 @@ impl<'a> Filling<'a> {
         }
     }
 
-    // Keeps where x's entry is in the second table, if it lost its slot in the first. 1 if it did, else 0: a number, since its caller adds it up.
-    fn give_second(&mut self, way: Way, x: u64, j: usize) -> usize
+    // Keeps where x's entry is in the second table, if it lost its slot in the first. Whether it did.
+    fn give_second(&mut self, way: Way, x: u64, j: usize) -> bool
         requires { j < many }
-        ensures { result ≤ 1 }
     {
         let at = slot(x, way, self.mask);
         if usize::from(self.slots[at]) == j {
-            return 0;
+            return false;
         }
         let to = second_slot(x, self.mask);
         self.slots[to] = j as u16;
-        1
+        true
     }
 
     // The same for each of the entries from lo on; how many lost their slot.
@@ -176,7 +175,7 @@ impl<'a> Filling<'a> {
         let mut lost = 0;
         for j in 0..windowed(pass.conns.count - pass.lo) {
             let x = words::get(pass.conns.bytes, (pass.lo + j) * CONN);
-            lost += self.give_second(way, x, j);
+            lost += usize::from(self.give_second(way, x, j));
         }
         lost
     }
