@@ -32,7 +32,7 @@ pub fn is_owned(rows: Records<Row>, h: Quad, i: usize) -> bool
 }
 
 // Where the rows of the Wtxid key of the hash h begin: a walk from the row `at` on, and a search if they are not near it.
-// (A loop: the closure of a `find` would need a clause that its row is one of them, and there is a second way out.)
+// (A loop: it ends in two ways, at a row or after so many.)
 pub fn walk_to(rows: Records<Row>, h: Quad, at: usize) -> usize {
     let k = Key {
         kind: ident::Kind::Wtxid,
