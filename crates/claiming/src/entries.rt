@@ -18,7 +18,7 @@ pub const ENTRY: usize = 14;
 
 pub const ENTRY_BYTES: usize = 8 * ENTRY;
 
-// Where its fields stand among them, behind the key.
+// Where its fields stand among them, behind the key. (Public where Sending reads the connection of an entry by itself.)
 pub const CONNECTION: usize = 5;
 
 const ITEM: usize = 6;

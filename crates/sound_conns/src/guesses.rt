@@ -203,7 +203,8 @@ impl<'a> Filling<'a> {
     }
 }
 
-// Where x's entry is, or the number of entries: both guesses of the window from lo on are tried first.
+// Where x's entry is, or the number of entries: both guesses of the window from lo on are tried first. (A number and no Option, as in `seek_entry`: one word in the sound
+// test's loop over all rows, of which its caller makes one test in either form.)
 pub fn find_entry(pass: Pass, x: u64, guesses: Guesses) -> usize
     ensures { Place (names pass.entry.conns.count (words pass.entry.conns.bytes.now)) pass.entry.conns.count x result }
 {
