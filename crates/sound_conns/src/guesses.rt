@@ -5,7 +5,7 @@
 // what the slots hold.
 ghost use Rattle.std.specs.Prelude.{◌≡◌, ◌+◌, ◌/◌, ◌^◌, ◌≤◌, ◌<◌, length, get_or};
 ghost use Rattle.words.specs.Words.{words, Decides};
-ghost use Rattle.sound_conns.specs.Conns.{names, Place, many};
+ghost use Rattle.sound_conns.specs.Conns.{names, FoundPlace, many};
 
 use crate::{MANY, Pass};
 use regions::listed::Records;
@@ -88,24 +88,24 @@ fn near(pass: Pass, x: u64) -> usize {
     base
 }
 
-// Where x's entry is, or the number of entries: a search in the window from lo on, and one among all where that does not find it.
-fn seek_entry(pass: Pass, x: u64) -> usize
-    ensures { Place (names pass.entry.conns.count (words pass.entry.conns.bytes.now)) pass.entry.conns.count x result }
+// Where x's entry is, if it has one: a search in the window from lo on, and one among all where that does not find it.
+fn seek_entry(pass: Pass, x: u64) -> Option<usize>
+    ensures { FoundPlace (names pass.entry.conns.count (words pass.entry.conns.bytes.now)) pass.entry.conns.count x result }
 {
     let conns = pass.conns;
     let a = near(pass, x);
     if is_entry(conns, a, x) {
-        return a;
+        return Some(a);
     }
     let b = a.saturating_sub(1);
     if is_entry(conns, b, x) {
-        return b;
+        return Some(b);
     }
     let i = regions::seek_conn(conns.bytes, conns.count, x);
     if is_entry(conns, i, x) {
-        return i;
+        return Some(i);
     }
-    conns.count
+    None
 }
 
 // ---- the slots
@@ -203,20 +203,19 @@ impl<'a> Filling<'a> {
     }
 }
 
-// Where x's entry is, or the number of entries: both guesses of the window from lo on are tried first. (A number and no Option, as in `seek_entry`: one word in the sound
-// test's loop over all rows, of which its caller makes one test in either form.)
-pub fn find_entry(pass: Pass, x: u64, guesses: Guesses) -> usize
-    ensures { Place (names pass.entry.conns.count (words pass.entry.conns.bytes.now)) pass.entry.conns.count x result }
+// Where x's entry is, if it has one: both guesses of the window from lo on are tried first.
+pub fn find_entry(pass: Pass, x: u64, guesses: Guesses) -> Option<usize>
+    ensures { FoundPlace (names pass.entry.conns.count (words pass.entry.conns.bytes.now)) pass.entry.conns.count x result }
 {
     let at = slot(x, guesses.way, guesses.mask);
     let a = pass.lo + usize::from(guesses.slots[at]);
     if is_entry(pass.conns, a, x) {
-        return a;
+        return Some(a);
     }
     let to = second_slot(x, guesses.mask);
     let b = pass.lo + usize::from(guesses.slots[to]);
     if is_entry(pass.conns, b, x) {
-        return b;
+        return Some(b);
     }
     seek_entry(pass, x)
 }

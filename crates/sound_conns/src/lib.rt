@@ -150,10 +150,9 @@ fn take_row(pass: Pass, t: &mut [u32], guesses: Guesses, x: u64, own: bool) -> b
     if !inside(pass, x) {
         return true;
     }
-    let k = guesses::find_entry(pass, x, guesses);
-    if k >= pass.conns.count {
+    let Some(k) = guesses::find_entry(pass, x, guesses) else {
         return false;
-    }
+    };
     take_off(t, pass.lo, k, own)
 }
 
