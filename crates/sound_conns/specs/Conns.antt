@@ -1,5 +1,5 @@
 -- What the test of the connections decides, in the words of FlatSound, and what its parts decide.
-use Rattle.std.specs.Prelude.{ℕ, suc, ◌+◌, ◌/◌, ◌%◌, ◌≤◌, ◌<◌, ◌≡◌, ◌⊎◌, Bool, true, false, ◌&&◌, List, [], ◌∷◌, Option, Some, None, eqb, length, get_or}
+use Rattle.std.specs.Prelude.{ℕ, suc, ◌+◌, ◌/◌, ◌%◌, ◌≤◌, ◌<◌, ◌≡◌, ◌⊎◌, Bool, true, false, ◌&&◌, List, [], ◌∷◌, eqb, length, get_or}
 use Rattle.words.specs.Words.{recs}
 use Rattle.regions.specs.declared.Row.{Row}
 use Rattle.regions.specs.declared.Conn.{Conn}
@@ -68,11 +68,6 @@ pub record Named (ks : List ℕ) (x : ℕ) : Type 0 where
 pub record Place (ks : List ℕ) (n x r : ℕ) : Type 0 where
   pub found : r < n → get_or ks r 0 ≡ x
   pub absent : n ≤ r → Rising ks → Named ks x → ⊥
-
--- the same, found or not
-abbrev pub FoundPlace : List ℕ → ℕ → ℕ → Option ℕ → Type 0
-FoundPlace ks n x None = Place ks n x n
-FoundPlace ks n x (Some r) = Place ks n x r × (r < n)
 
 -- the greatest number of 64 bits
 abbrev pub most : ℕ

@@ -5,7 +5,7 @@
 // what the slots hold.
 ghost use Rattle.std.specs.Prelude.{◌≡◌, ◌+◌, ◌/◌, ◌^◌, ◌≤◌, ◌<◌, length, get_or};
 ghost use Rattle.words.specs.Words.{words, Decides};
-ghost use Rattle.sound_conns.specs.Conns.{names, FoundPlace, many};
+ghost use Rattle.sound_conns.specs.Conns.{names, Place, many};
 
 use crate::{MANY, Pass};
 use regions::listed::Records;
@@ -88,24 +88,24 @@ fn near(pass: Pass, x: u64) -> usize {
     base
 }
 
-// Where x's entry is, if it has one: a search in the window from lo on, and one among all where that does not find it.
-fn seek_entry(pass: Pass, x: u64) -> Option<usize>
-    ensures { FoundPlace (names pass.entry.conns.count (words pass.entry.conns.bytes.now)) pass.entry.conns.count x result }
+// Where x's entry is, or the number of entries: a search in the window from lo on, and one among all where that does not find it.
+fn seek_entry(pass: Pass, x: u64) -> usize
+    ensures { Place (names pass.entry.conns.count (words pass.entry.conns.bytes.now)) pass.entry.conns.count x result }
 {
     let conns = pass.conns;
     let a = near(pass, x);
     if is_entry(conns, a, x) {
-        return Some(a);
+        return a;
     }
     let b = a.saturating_sub(1);
     if is_entry(conns, b, x) {
-        return Some(b);
+        return b;
     }
     let i = regions::seek_conn(conns.bytes, conns.count, x);
     if is_entry(conns, i, x) {
-        return Some(i);
+        return i;
     }
-    None
+    conns.count
 }
 
 // ---- the slots
@@ -155,17 +155,18 @@ impl<'a> Filling<'a> {
         }
     }
 
-    // Keeps where x's entry is in the second table, if it lost its slot in the first. Whether it did.
-    fn give_second(&mut self, way: Way, x: u64, j: usize) -> bool
+    // Keeps where x's entry is in the second table, if it lost its slot in the first. 1 if it did, else 0: a number, since its caller adds it up.
+    fn give_second(&mut self, way: Way, x: u64, j: usize) -> usize
         requires { j < many }
+        ensures { result ≤ 1 }
     {
         let at = slot(x, way, self.mask);
         if usize::from(self.slots[at]) == j {
-            return false;
+            return 0;
         }
         let to = second_slot(x, self.mask);
         self.slots[to] = j as u16;
-        true
+        1
     }
 
     // The same for each of the entries from lo on; how many lost their slot.
@@ -175,7 +176,7 @@ impl<'a> Filling<'a> {
         let mut lost = 0;
         for j in 0..windowed(pass.conns.count - pass.lo) {
             let x = words::get(pass.conns.bytes, (pass.lo + j) * CONN);
-            lost += usize::from(self.give_second(way, x, j));
+            lost += self.give_second(way, x, j);
         }
         lost
     }
@@ -203,19 +204,20 @@ impl<'a> Filling<'a> {
     }
 }
 
-// Where x's entry is, if it has one: both guesses of the window from lo on are tried first.
-pub fn find_entry(pass: Pass, x: u64, guesses: Guesses) -> Option<usize>
-    ensures { FoundPlace (names pass.entry.conns.count (words pass.entry.conns.bytes.now)) pass.entry.conns.count x result }
+// Where x's entry is, or the number of entries: both guesses of the window from lo on are tried first. (A number, as in `seek_entry`: tried as an Option, with `own` as a
+// bool, beside the two scans of sound_rows/src/group, whose figure this is.)
+pub fn find_entry(pass: Pass, x: u64, guesses: Guesses) -> usize
+    ensures { Place (names pass.entry.conns.count (words pass.entry.conns.bytes.now)) pass.entry.conns.count x result }
 {
     let at = slot(x, guesses.way, guesses.mask);
     let a = pass.lo + usize::from(guesses.slots[at]);
     if is_entry(pass.conns, a, x) {
-        return Some(a);
+        return a;
     }
     let to = second_slot(x, guesses.mask);
     let b = pass.lo + usize::from(guesses.slots[to]);
     if is_entry(pass.conns, b, x) {
-        return Some(b);
+        return b;
     }
     seek_entry(pass, x)
 }

@@ -14,7 +14,6 @@ use regions::{CONN, Conn, Row};
 mod guesses; // guesses.rt: where a connection's entry is
 
 ghost use Rattle.std.specs.Prelude.{◌≡◌, ℕ, ◌+◌, ◌*◌, ◌/◌, ◌^◌, ◌≤◌, ◌<◌, [], true, length, get_or};
-ghost use Rattle.std.specs.Int.{from_bool};
 ghost use Rattle.words.specs.Words.{words, recs, Decides};
 ghost use Rattle.machine.specs.Limits.{max_announcements};
 ghost use Rattle.machine.specs.Typed.{Each};
@@ -109,10 +108,11 @@ fn charge_all(pass: Pass, t: &mut [u32])
     }
 }
 
-// Takes a row off the counter of the entry k, and one that owns its request if `own` says so, if k is among those from lo on. False if less
-// than that is left.
-fn take_off(t: &mut [u32], lo: usize, k: usize, own: bool) -> bool
-    ensures { Lessening result t.old t.new lo k (from_bool own) × (length t.new ≡ length t.old) }
+// Takes a row off the counter of the entry k, and one that owns its request if `own` is 1 (a number: it is compared and subtracted), if k
+// is among those from lo on. False if less than that is left.
+fn take_off(t: &mut [u32], lo: usize, k: usize, own: u32) -> bool
+    requires { own ≤ 1 }
+    ensures { Lessening result t.old t.new lo k own × (length t.new ≡ length t.old) }
 {
     if k < lo {
         return true;
@@ -125,11 +125,10 @@ fn take_off(t: &mut [u32], lo: usize, k: usize, own: bool) -> bool
     if v % HALF == 0 {
         return false;
     }
-    let one = u32::from(own);
-    if v / HALF < one {
+    if v / HALF < own {
         return false;
     }
-    t[j] = v - (1 + one * HALF);
+    t[j] = v - (1 + own * HALF);
     true
 }
 
@@ -142,17 +141,17 @@ fn inside(pass: Pass, x: u64) -> bool
 }
 
 // Takes a row of the connection x off its entry, if x is inside. False if x has no entry, or one with too little left.
-fn take_row(pass: Pass, t: &mut [u32], guesses: Guesses, x: u64, own: bool) -> bool
-    requires { length t.old ≤ many }
-    ensures { Taking result (names pass.entry.conns.count (words pass.entry.conns.bytes.now)) pass.entry.done pass.entry.last pass.entry.lo x (from_bool own) t.old t.new
-        × (length t.new ≡ length t.old) }
+fn take_row(pass: Pass, t: &mut [u32], guesses: Guesses, x: u64, own: u32) -> bool
+    requires { (length t.old ≤ many) × (own ≤ 1) }
+    ensures { Taking result (names pass.entry.conns.count (words pass.entry.conns.bytes.now)) pass.entry.done pass.entry.last pass.entry.lo x own t.old t.new × (length t.new ≡ length t.old) }
 {
     if !inside(pass, x) {
         return true;
     }
-    let Some(k) = guesses::find_entry(pass, x, guesses) else {
+    let k = guesses::find_entry(pass, x, guesses);
+    if k >= pass.conns.count {
         return false;
-    };
+    }
     take_off(t, pass.lo, k, own)
 }
 
@@ -168,7 +167,8 @@ fn count_rows(rows: Records<Row>, pass: Pass, t: &mut [u32], guesses: Guesses) -
 {
     for i in 0..rows.count {
         let r = rows.get(i);
-        if !take_row(pass, t, guesses, r.conn, r.owns()) {
+        let own = u32::from(r.owns());
+        if !take_row(pass, t, guesses, r.conn, own) {
             return false;
         }
     }

@@ -12,15 +12,16 @@ use borrow.Author.Tests.{ltb-true, ltb-false, leb-true, leb-false, eqb-true, eqb
 use Rattle.words.specs.Words.{recs, Decides}
 use Rattle.words.proofs.Records.{recs-add, recs_at}
 use Rattle.regions.specs.declared.Row.{Row}
-use Rattle.std.specs.Prelude.{Option, Some, None, is_some, unwrap_or, MatchOption}
-use Rattle.std.specs.List.{filter, range_with_len}
+use Rattle.std.specs.Prelude.{Option, Some, None, is_some}
 use Rattle.regions.specs.Order.{First, FoundFirst}
 use Rattle.regions.specs.Rows.{row_size, read_row, row_conn}
 use Rattle.machine.specs.Table.{one}
 use Rattle.machine.specs.Typed.{Each}
-use Rattle.machine.proofs.Tests.{test, by_test, never}
+use Rattle.machine.proofs.Tests.{test, never}
+use Rattle.store.specs.Flat.{own_bit}
 use Rattle.store.specs.FlatSound.{count_rows, hash_at, owns}
 use Rattle.store.proofs.Counts.{rows_append, rows_all, rows_same}
+use Rattle.store.proofs.Certify.{own-bit}
 use Rattle.sound_rows.specs.Groups.{GroupsSound, row_at, rows_in, Least, Run, rows_by, Apart, GroupFits}
 use Rattle.sound_rows.proofs.Decide.{Iff, iff_self, rest_all, rest_turn, rest_none}
 
@@ -231,41 +232,14 @@ module _ {X : Type 0} (w : List ℕ) (others : List Row) (k a : ℕ) (h : k < a)
 pub apart_end : {X : Type 0} (w : List ℕ) (others : List Row) (k a : ℕ) → a ≤ k → Iff X (Apart others (rows_in w k a)) → X
 apart_end w others k a h v = v.from (rw (in_none w k a h) tt)
 
--- what a scan says of the i-th row
-pub owns_read : (w : List ℕ) (i : ℕ) {r : Row} {y : Bool} → y ≡ owns r → r ≡ row_at w i → y ≡ owns (row_at w i)
-owns_read w i {r} {y} e p = e ∙ ap (λ (r : Row). owns r) p
+pub owners_turn : (w : List ℕ) (i to : ℕ) {r : Row} → i < to → r ≡ row_at w i → count_rows owns (rows_in w i to) ≡ own_bit r + count_rows owns (rows_in w (i + 1) to)
+owners_turn w i to h e = rw (in-turn w i to h, e) (cons (row_at w i) (rows_in w (i + 1) to))
+  where
+    cons : (r : Row) (rs : List Row) → count_rows owns (r ∷ rs) ≡ own_bit r + count_rows owns rs
+    cons r rs = unfold count_rows in ap (λ (m : ℕ). m + count_rows owns rs) (sym (own-bit r))
 
-numbered : (w : List ℕ) (k i to : ℕ) → i + k ≡ to
-    → (length (filter (λ j. owns (row_at w j)) (range_with_len i k)) ≡ count_rows owns (rows_in w i to)) × (count_rows owns (rows_in w i to) ≤ k)
-unfolding count_rows
-numbered w zero i to e = rw (in_none w i to (omega arith)) (refl, omega arith)
-numbered w (suc k) i to e =
-    let t = numbered w k (i + 1) to (omega arith) in
-    rw (in-turn w i to (omega arith))
-    (by_test (λ (l : List ℕ). (length l ≡ one (owns (row_at w i)) + count_rows owns (rows_in w (i + 1) to)) × (one (owns (row_at w i)) + count_rows owns (rows_in w (i + 1) to) ≤ suc k))
-    (owns (row_at w i)) (λ e. rw e (omega (arith, t.0), omega (arith, t.1))) (λ e. rw e (omega (arith, t.0), omega (arith, t.1))))
-
-pub owners_counted : (w : List ℕ) (from to : ℕ) → from ≤ to → {m : ℕ} → m ≡ length (filter (λ j. owns (row_at w j)) (range_with_len from (to - from)))
-    → (m ≡ count_rows owns (rows_in w from to)) × (m ≤ to)
-owners_counted w from to h {m} e = let t = numbered w (to - from) from to (omega arith) in (e ∙ t.0, omega (arith, e, t.0, t.1))
-
--- the first that is found above h, or the end
-pub run_found : (w : List ℕ) (h : ℕ) {from to : ℕ} → from ≤ to → (o : Option ℕ)
-    → MatchOption o ((k : ℕ) → from ≤ k → k < to → ltb h (hash_at (row_at w k)) ≡ false)
-    (λ i. (from ≤ i) × (i < to) × (ltb h (hash_at (row_at w i)) ≡ true) × ((k : ℕ) → from ≤ k → k < i → ltb h (hash_at (row_at w k)) ≡ false))
-    → {r : ℕ} → r ≡ unwrap_or o to → Run w from to h r
-run_found w h {from} {to} l None p {r} e = rw e (record {
-  least = l;
-  most = omega arith;
-  upto = λ k a b. omega (arith, ltb-false h (hash_at (row_at w k)) (p k a b));
-  past = λ b. absurd (omega arith);
-})
-run_found w h {from} {to} l (Some i) p {r} e = rw e (record {
-  least = p.0;
-  most = omega (arith, p.1);
-  upto = λ k a b. omega (arith, ltb-false h (hash_at (row_at w k)) (p.3 k a b));
-  past = λ b. omega (arith, ltb-true h (hash_at (row_at w i)) p.2);
-})
+pub owners_none : (w : List ℕ) (i to : ℕ) → to ≤ i → count_rows owns (rows_in w i to) ≡ 0
+owners_none w i to h = rw (in_none w i to h) (unfold count_rows in refl)
 
 pub group_decides : {most : ℕ} (a b : List Row) (m n : ℕ) → length a + length b ≤ most → Apart b a → Apart [] b → m ≡ count_rows owns a → n ≡ count_rows owns b
     → Decides (leb (m + n) 1) (GroupFits most a b)

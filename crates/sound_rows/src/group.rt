@@ -43,13 +43,17 @@ fn least_hash(rows: Records<Row>, i: usize, m: usize, j: usize) -> Quad
     x
 }
 
-// The first of the rows whose hash is above h, or the part's end.
+// The first of the rows whose hash is above h, or the part's end. (A loop: tried as `find`, with `owners` below as `filter` and `count`, the sound test of 100,000 rows took
+// 3.04 ms in place of 2.79.)
 pub fn run_end(part: Part, h: Quad) -> usize
     ensures { Run (words part.entry.rows.bytes.now) part.entry.from part.entry.to (quad_number h) result }
 {
-    (part.from..part.to)
-        .find(|&i| regions::quad_less(h, hash_at(part.rows, i)))
-        .unwrap_or(part.to)
+    for i in part.from..part.to {
+        if regions::quad_less(h, hash_at(part.rows, i)) {
+            return i;
+        }
+    }
+    part.to
 }
 
 // Whether no connection of `mine` is in a later one of them, or in one of `others`. (A loop with two ways to a no: in `all` they would be
@@ -70,13 +74,16 @@ fn apart(mine: Part, others: Part) -> bool
     true
 }
 
-// How many of the rows own their request.
+// How many of the rows own their request. (A plain sum of bits: see `run_end`.)
 pub fn owners(part: Part) -> u64
     ensures { (result ≡ count_rows owns (rows_of part.entry)) × (result ≤ part.entry.to) }
 {
-    (part.from..part.to)
-        .filter(|&i| part.rows.get(i).owns())
-        .count() as u64
+    let mut sum = 0;
+    for i in part.from..part.to {
+        let r = part.rows.get(i);
+        sum += u64::from(r.owns());
+    }
+    sum
 }
 
 // Marks the slots of the rows' connections, the last first, and whether no slot had the mark already. If none had, the connections are

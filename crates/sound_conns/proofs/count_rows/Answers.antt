@@ -1,7 +1,6 @@
 use Prim.Native.Nat.{◌/◌}
 use borrow.Author.Rules.{rules}
 use native.Mathlib.Omega.{arith}
-use mir.Val.{bool_byte}
 use mathlib.Core.Path.{◌≡◌, refl, ◌∙◌}
 use Rattle.words.specs.Words.{words}
 use Rattle.regions.proofs.Bits.{as_bit}
@@ -14,7 +13,7 @@ loop-i-init c = (omega arith, refl, tallied_none _ _ _ _ _ _ _ c.requires.1)
 
 pub returns-then-not-take_row : goal.returns-then-not-take_row
 returns-then-not-take_row c =
-    let own : bool_byte c.owns.result ≡ own_bit c.get-r.result = as_bit (c.get-r.result.bits / 8) refl c.owns.ensures in
+    let own : c.from-own.result ≡ own_bit c.get-r.result = as_bit (c.get-r.result.bits / 8) c.from-own.ensures c.owns.ensures in
     let b = rw own at c.if-not-take_row.ensures in (
       λ o. tallied_stop _ _ (words c.args.rows.bytes.now) _ _ _ c.loop-i.i _ _ c.get-r.ensures.words_are c.loop-i.invariant.2 c.args.rows.count (omega arith) (rw b.1 at o) b.0,
       b.1 ∙ c.loop-i.invariant.1,
@@ -22,7 +21,7 @@ returns-then-not-take_row c =
 
 pub loop-i-preserved : goal.loop-i-preserved
 loop-i-preserved c =
-    let own : bool_byte c.owns.result ≡ own_bit c.get-r.result = as_bit (c.get-r.result.bits / 8) refl c.owns.ensures in
+    let own : c.from-own.result ≡ own_bit c.get-r.result = as_bit (c.get-r.result.bits / 8) c.from-own.ensures c.owns.ensures in
     let b = rw own at c.if-not-take_row.ensures in (
       search rules,
       b.1 ∙ c.loop-i.invariant.1,

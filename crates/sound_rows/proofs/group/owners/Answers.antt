@@ -1,21 +1,22 @@
+use borrow.Author.Rules.{rules}
+use mathlib.Core.Path.{◌≡◌}
 use native.Mathlib.Omega.{arith}
-use Rattle.std.proofs.Common.{rules, tests}
-use Rattle.std.proofs.lemmas.Iterator.{serves_from_Range, YieldsList-from_range}
-use Rattle.std.proofs.lemmas.Iterator.Consumers.{count_from_yields_List, YieldsList-from_filter, YieldsList-at}
+use Prim.Native.Nat.{◌/◌}
 use Rattle.words.specs.Words.{words}
-use Rattle.store.specs.FlatSound.{owns}
-use Rattle.sound_rows.specs.Groups.{row_at}
-use Rattle.sound_rows.proofs.Groups.{owners_counted, owns_read}
+use Rattle.regions.proofs.Bits.{as_bit}
+use Rattle.store.specs.Flat.{own_bit}
+use Rattle.sound_rows.proofs.Groups.{owners_turn, owners_none}
 use Rattle.sound_rows.proofs.group.owners.Goals as goal
 
-pub count-requires-clause-can : goal.count-requires-clause-can
-count-requires-clause-can c = (tt, tt, serves_from_Range (λ j q k. search (rules, tests)) (λ j o l. search (rules, tests, c.args.part.inside)))
+pub loop-i-preserved : goal.loop-i-preserved
+loop-i-preserved c =
+    let own : c.from-sum.result ≡ own_bit c.get-r.result = as_bit (c.get-r.result.bits / 8) c.from-sum.ensures c.owns.ensures in
+    let t = owners_turn (words c.args.part.rows.bytes.now) c.loop-i.i c.args.part.to (omega arith)
+    c.get-r.ensures.words_are in
+    (search rules, search rules, omega arith, omega (arith, c.loop-i.invariant.3))
 
 pub returns : goal.returns
-returns c =
-    let p = c.args.part in
-    let w = words p.rows.bytes.now in
-    owners_counted w p.from p.to p.order
-    (count_from_yields_List _ c.count.result c.count.ensures.ran
-    (YieldsList-from_filter _ (λ i. owns (row_at w i)) (YieldsList-at c.filter.ensures.source (YieldsList-from_range p.from p.to _ (cc) (omega arith))) c.filter.ensures.closure
-    (λ x r q k. (search rules, search (rules, owns_read w x)))))
+returns c = (
+  omega (arith, c.loop-i.invariant.3, owners_none (words c.args.part.rows.bytes.now) c.loop-i.i c.args.part.to (omega arith)),
+  omega arith,
+)
