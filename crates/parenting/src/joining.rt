@@ -1,0 +1,67 @@
+// Parents that wait beside the store, to come in together: rows move once for all of them.
+ghost use Rattle.std.specs.Prelude.{◌≡◌, ◌+◌, ◌≤◌};
+ghost use Rattle.ident.specs.Words.{hash_num};
+ghost use Rattle.words.specs.Words.{words};
+ghost use Rattle.machine.specs.Table.{one};
+ghost use Rattle.store.specs.Shown.{Kept};
+ghost use Rattle.parenting.specs.Waiting.{Markable, RowsMarked, Waits, LetIn, WaitsWith, NextIn};
+
+use crate::parent::Parent;
+use gathering::beside::Fare;
+use gathering::rows::Waiting;
+use regions::Row;
+use regions::listed::Records;
+
+// With fewer parents a pass over the rows costs more than it spares.
+const FEW: usize = 6;
+
+// The requests of some rows are marked.
+fn mark_rows(s: &mut [u8], rows: Records<Row>)
+    requires { Markable s.old (words rows.bytes.now) rows.count }
+    ensures { RowsMarked s.old s.new (words rows.entry.bytes.now) rows.entry.count }
+{
+    for i in 0..rows.count {
+        let y = rows.get(i);
+        requests::mark(s, announcing::evict::key_of(y));
+    }
+}
+
+// The parents of the connection n that wait come in.
+pub fn let_in(s: &mut [u8], new: &mut Waiting, n: u64)
+    requires { Waits n s.old (words new.old.bytes) new.old.count }
+    ensures { LetIn n s.old s.new (words new.old.bytes) (words new.new.bytes) new.old.count × (new.new.count ≡ 0) }
+{
+    if new.count == 0 {
+        return;
+    }
+    let rows = Records::new(&new.bytes, new.count);
+    gathering::coming::come_in(s, n, rows);
+    mark_rows(s, rows);
+    gathering::region::clear(&mut new.bytes);
+    new.count = 0;
+}
+
+// Whether the parent waits with those before it: where they are many, it does if it comes in without another's giving way.
+fn wait_with(s: &[u8], new: &mut Waiting, p: Parent) -> bool
+    requires { Kept s.now }
+    ensures { WaitsWith p.entry.connection.number p.entry.clock (hash_num p.entry.hash) p.entry.priority s.now (words new.old.bytes) (words new.new.bytes) new.old.count result
+        × (new.new.count ≡ new.old.count + one result) }
+{
+    if p.count < FEW {
+        return false;
+    }
+    new.set_aside(s, p.offered()) == Fare::Waits
+}
+
+// Announces the parent beside those that wait, and says whether it was kept: it waits with them, or else they come in first.
+pub fn announce_next(s: &mut [u8], new: &mut Waiting, p: Parent) -> bool
+    requires { Waits p.connection.number s.old (words new.old.bytes) new.old.count }
+    ensures { NextIn p.entry.connection.number p.entry.clock (hash_num p.entry.hash) p.entry.priority s.old s.new (words new.old.bytes) (words new.new.bytes) new.old.count
+        (record { kept = result; waiting = new.new.count }) }
+{
+    if wait_with(s, new, p) {
+        return true;
+    }
+    let_in(s, new, p.connection.number);
+    announcing::parents::announce_parent(s, p.connection, p.clock, p.hash, p.priority as u64)
+}
