@@ -64,7 +64,7 @@ impl Known {
     // Lists victims for the parents that are left, of which p is the next, if they are to be listed.
     fn restock(&mut self, s: &[u8], new: &Waiting, p: Parent)
         requires { Kept s.now }
-        ensures { Restocked p.entry.connection.number s.now (words new.now.bytes) (words self.old.listed.bytes) (words self.new.listed.bytes) new.now.count (reserve_of self.old)
+        ensures { Restocked p.connection.number s.now (words new.now.bytes) (words self.old.listed.bytes) (words self.new.listed.bytes) new.now.count (reserve_of self.old)
             (reserve_of self.new) }
     {
         if !self.is_lacking(s, new, p) {
@@ -83,13 +83,14 @@ fn is_known(s: &[u8], new: &Waiting, h: ident::Hash, n: u64) -> bool
     requires { Kept s.now }
     ensures { Unknown s.now (words new.now.bytes) new.now.count (hash_num h) n result }
 {
-    requests::is_candidate(s, h, n) || gathering::region::waits_at(Records::new(&new.bytes, new.count), h)
+    requests::is_candidate(s, h, n)
+        || gathering::region::waits_at(Records::new(&new.bytes, new.count), h)
 }
 
 // Announces the parent beside those that wait for victims. One that the connection has announced is to adopt what is there, by itself.
 fn defer_with(s: &[u8], new: &mut Waiting, q: &Known, p: Parent) -> Fare
     requires { Supplies p.connection.number s.now (words new.old.bytes) (words q.now.listed.bytes) new.old.count (reserve_of q.now) }
-    ensures { DefersWith p.entry.connection.number p.entry.clock (hash_num p.entry.hash) p.entry.priority s.now (words new.old.bytes) (words new.new.bytes)
+    ensures { DefersWith p.connection.number p.clock (hash_num p.hash) p.priority s.now (words new.old.bytes) (words new.new.bytes)
         (words q.now.listed.bytes) new.old.count (reserve_of q.now) result × (new.new.count ≡ then_wait new.old.count result) }
 {
     if q.listed.count == 0 {
@@ -141,7 +142,7 @@ fn announce_unaided(s: &mut [u8], n: Connection, clock: u64, h: ident::Hash, pri
 // Those that wait come in; then the parent is announced, where nobody can be evicted.
 fn announce_spent(s: &mut [u8], new: &mut Waiting, p: Parent) -> bool
     requires { Waits p.connection.number s.old (words new.old.bytes) new.old.count }
-    ensures { SpentIn p.entry.connection.number p.entry.clock (hash_num p.entry.hash) p.entry.priority s.old s.new (words new.old.bytes) (words new.new.bytes) new.old.count result
+    ensures { SpentIn p.connection.number p.clock (hash_num p.hash) p.priority s.old s.new (words new.old.bytes) (words new.new.bytes) new.old.count result
         × (new.new.count ≡ 0) }
 {
     joining::let_in(s, new, p.connection.number);
@@ -162,7 +163,7 @@ fn is_hopeless(s: &[u8], new: &Waiting, q: &Known) -> bool
 // Announces the parent beside those that wait, where no victim is listed.
 fn announce_unlisted(s: &mut [u8], new: &mut Waiting, q: &Known, p: Parent) -> bool
     requires { Waits p.connection.number s.old (words new.old.bytes) new.old.count }
-    ensures { FurtherAlone p.entry.connection.number p.entry.clock (hash_num p.entry.hash) p.entry.priority s.old s.new (words new.old.bytes) (words new.new.bytes) new.old.count
+    ensures { FurtherAlone p.connection.number p.clock (hash_num p.hash) p.priority s.old s.new (words new.old.bytes) (words new.new.bytes) new.old.count
         (unlisted q.now.spent) (record { kept = result; waiting = new.new.count; reserve = unlisted q.now.spent }) }
 {
     if is_hopeless(s, new, q) {
@@ -174,7 +175,7 @@ fn announce_unlisted(s: &mut [u8], new: &mut Waiting, q: &Known, p: Parent) -> b
 // Announces the parent beside those that wait, and says whether it was kept.
 pub fn announce_further(s: &mut [u8], new: &mut Waiting, q: &mut Known, p: Parent) -> bool
     requires { Supplies p.connection.number s.old (words new.old.bytes) (words q.old.listed.bytes) new.old.count (reserve_of q.old) }
-    ensures { FurtherIn p.entry.connection.number p.entry.clock (hash_num p.entry.hash) p.entry.priority s.old s.new (words new.old.bytes) (words new.new.bytes)
+    ensures { FurtherIn p.connection.number p.clock (hash_num p.hash) p.priority s.old s.new (words new.old.bytes) (words new.new.bytes)
         (words q.old.listed.bytes) (words q.new.listed.bytes) new.old.count (reserve_of q.old) (record { kept = result; waiting = new.new.count; reserve = reserve_of q.new }) }
 {
     q.restock(s, new, p);

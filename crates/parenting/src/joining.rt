@@ -44,7 +44,7 @@ pub fn let_in(s: &mut [u8], new: &mut Waiting, n: u64)
 // Whether the parent waits with those before it: where they are many, it does if it comes in without another's giving way.
 fn wait_with(s: &[u8], new: &mut Waiting, p: Parent) -> bool
     requires { Kept s.now }
-    ensures { WaitsWith p.entry.connection.number p.entry.clock (hash_num p.entry.hash) p.entry.priority s.now (words new.old.bytes) (words new.new.bytes) new.old.count result
+    ensures { WaitsWith p.connection.number p.clock (hash_num p.hash) p.priority s.now (words new.old.bytes) (words new.new.bytes) new.old.count result
         × (new.new.count ≡ new.old.count + one result) }
 {
     if p.count < FEW {
@@ -56,7 +56,7 @@ fn wait_with(s: &[u8], new: &mut Waiting, p: Parent) -> bool
 // Announces the parent beside those that wait, and says whether it was kept: it waits with them, or else they come in first.
 pub fn announce_next(s: &mut [u8], new: &mut Waiting, p: Parent) -> bool
     requires { Waits p.connection.number s.old (words new.old.bytes) new.old.count }
-    ensures { NextIn p.entry.connection.number p.entry.clock (hash_num p.entry.hash) p.entry.priority s.old s.new (words new.old.bytes) (words new.new.bytes) new.old.count
+    ensures { NextIn p.connection.number p.clock (hash_num p.hash) p.priority s.old s.new (words new.old.bytes) (words new.new.bytes) new.old.count
         (record { kept = result; waiting = new.new.count }) }
 {
     if wait_with(s, new, p) {

@@ -17,13 +17,7 @@ use ident::connection::Connection;
 const FEW: usize = 4;
 
 // The same of many.
-fn announce_many(
-    s: &mut [u8],
-    n: Connection,
-    clock: u64,
-    parents: &[u8],
-    out: &mut [u8],
-) -> usize
+fn announce_many(s: &mut [u8], n: Connection, clock: u64, parents: &[u8], out: &mut [u8]) -> usize
     requires { Kept s.old × (length (hashes_in parents.now) ≤ max_parents) × (key_bytes * length (hashes_in parents.now) ≤ length out.old) }
     ensures { KeysListed s.old s.new out.old out.new result (λ m t. machine.announce_parents m n.number clock (hashes_in parents.now) t) }
 {

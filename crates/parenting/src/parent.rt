@@ -21,7 +21,7 @@ pub struct Parent {
 impl Parent {
     // The candidate that it makes.
     pub fn offered(self) -> requests::Candidate
-        ensures { candidate_of result ≡ parent_of self.entry.connection.number self.entry.clock (hash_num self.entry.hash) self.entry.priority }
+        ensures { candidate_of result ≡ parent_of self.connection.number self.clock (hash_num self.hash) self.priority }
     {
         announcing::parents::offered(
             self.hash,
