@@ -1,20 +1,21 @@
 -- Where L announcements are held, and the store is written at the end only: those that come in wait beside it, and as many of the victims
 -- listed are to go for them. What is asked meanwhile is asked of the store as it was.
-use Rattle.std.specs.Prelude.{ℕ, ◌+◌, ◌≤◌, ◌<◌, ◌≡◌, ◌⊎◌, Bool, true, false, List, [], eqb, length, take}
-use Rattle.std.proofs.Math.Option.{Option}
-use Rattle.ident.specs.Number.{Key}
+use Rattle.std.specs.Prelude.{ℕ, ◌+◌, ◌≤◌, ◌<◌, ◌≡◌, ◌⊎◌, Bool, true, false, List, [], ◌∷◌, ◌++◌, eqb, length, take}
+use Rattle.std.proofs.Math.Option.{Option, some}
+use Rattle.ident.specs.Number.{top, Key}
 use Rattle.regions.specs.declared.Row.{Row}
 use Rattle.regions.specs.Regions.{Holds}
 use Rattle.regions.specs.Rows.{row_size, row_words}
 use Rattle.machine.specs.Limits.{Limits}
 use Rattle.machine.specs.State.{Candidate, Entry, State, Table, limits_of, on_table}
 use Rattle.machine.specs.Table.{held, held_at}
-use Rattle.machine.specs.Announce.{victims, at_hash, announce_keyed}
+use Rattle.machine.specs.Announce.{cut, victims, greatest, anywhere, at_hash, announce_keyed}
 use Rattle.machine.specs.Sound.{Sound}
 use Rattle.machine.specs.Typed.{Each}
 use Rattle.store.specs.Flat.{rows_of}
 use Rattle.store.specs.Gather.{key_at}
 use Rattle.store.specs.Image.{Writes}
+use Rattle.announcing.specs.Evicts.{entry_at}
 use Rattle.announcing.specs.Falls.{list_space, cuts, VictimRows}
 use Rattle.gathering.specs.declared.beside.Fare.{Fare}
 use Rattle.gathering.specs.declared.beside.Fare.TheVariants.{Nothing, Waits, Alone}
@@ -71,10 +72,23 @@ pub record SuitedIn (b w v : List ℕ) (d : ℕ) (k : Key) (c : Candidate) (y : 
   pub nothing : r ≡ Nothing → SuitsNot b w v d k c
   pub waits : r ≡ Waits → SuitsToo b w v d k c y
 
--- what stands once c was announced
+-- c comes in at k behind es for the candidate of a row, the greatest that can be evicted in the table t: they are then `entries`, and `left` is left of t
+pub record Instead (m : Limits) (t : Table) (es : List Entry) (k : Key) (c : Candidate) (entries : List Entry) (left : Table) : Type 0 where
+  pub row : Row
+  pub free : barred_beside es k c.connection t ≡ false
+  pub room : held_at k.hash t < m.alternates
+  pub greatest_is : greatest (victims anywhere t) ≡ some (entry_at row)
+  pub small : (key_at row).hash < top
+  pub apart : waits (key_at row).hash es ≡ false
+  pub last : entries ≡ es ++ (record { key = k; candidate = c } ∷ [])
+  pub rest : left ≡ cut (key_at row) row.conn t
+
+-- what stands once c was announced beside es: it has come in for the machine's victim, or nothing has changed
 pub record Owed (b w v : List ℕ) (d m : ℕ) (x : Option Key) (c : Candidate) (st : State) (es : List Entry) (t : Table) : Type 0 where
   pub owing : Owing b w v c.connection d m st
   pub same : (announce_keyed (limits_of st) x c (pushes es t)).table ≡ pushes owing.entries (left_by owing)
+  pub enters : length es < d → (k : Key) → x ≡ some k → Instead (limits_of st) t es k c owing.entries (left_by owing)
+  pub stays : d ≡ length es → (owing.entries ≡ es) × (left_by owing ≡ t) × ((announce_keyed (limits_of st) x c (pushes es t)).reply ≡ false)
 
 -- whoever waited, d of them: e wait then, and as many victims are to go
 abbrev pub OwedIn : List ℕ → List ℕ → List ℕ → List ℕ → ℕ → ℕ → ℕ → Option Key → Candidate → Type 0
