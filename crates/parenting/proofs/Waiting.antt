@@ -8,6 +8,9 @@ use native.Mathlib.Omega.{arith}
 use lib.Dec.{leb}
 use lib.ListN.{length, drop, get_or, drop_of_length-le}
 use lib.Seq.{drop-cons}
+use denote.Laws.{Is}
+use denote.Struct.Laws as LL
+use Rattle.ident.specs.Words.{hash_num}
 use Rattle.ident.specs.Number.{top, Key, txid, wtxid, key_of}
 use Rattle.regions.specs.declared.Row.{Row}
 use Rattle.regions.specs.Regions.{Holds, Found}
@@ -41,8 +44,17 @@ use Rattle.gathering.specs.Aside.{space, Empty, Aside, Joined, Enters, SetAside,
 use Rattle.gathering.proofs.ComingIn.{length-gathered}
 use Rattle.gathering.proofs.Faring.{each_more, set-same}
 use Rattle.gathering.proofs.Waiting.{pushes_more, new_beside, room-beside}
+use Rattle.announcing.proofs.Lent.{hash_low}
+use Rattle.parenting.specs.declared.parent.Parent.{Parent}
+use Rattle.parenting.specs.contracts.parent.Parent as P
+use Rattle.parenting.proofs.parent.Parent.TheLaws as P'
 use Rattle.parenting.specs.Waiting.{marks, keys_of, row_keys, TxKey, Markable, RowsMarked, Parental, Beside, Waits, LetIn, NextAt, WaitsWith, NextIn}
 use Rattle.parenting.proofs.Marking.{count-marks, sound-marks, push-marks, marks_more, keys_more, entries-keys, entries-else, keys-gathered, marks-gathered}
+
+-- ---- a parent that is given
+
+pub parent_low : (p : Parent) → Is P.the_row p (LL.vals P.the_type P'.the_laws p) → hash_num p.hash < top
+parent_low p g = hash_low p.hash (LL.owed P.the_type P'.the_laws p _ g).0
 
 -- ---- how many wait
 
