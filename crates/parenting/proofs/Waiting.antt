@@ -38,7 +38,7 @@ use Rattle.gathering.specs.contracts.beside.FarePartialEq.TheImpl.{eq-value}
 use Rattle.gathering.specs.Counted.{then_wait}
 use Rattle.gathering.specs.Merges.{gathered}
 use Rattle.gathering.specs.Waits.{pushes, waits}
-use Rattle.gathering.specs.Aside.{space, Empty, Aside, Joined, Enters, SetAside, Gathers, ComeIn}
+use Rattle.gathering.specs.Aside.{space, Empty, Aside, Joined, Enters, SetAside, ComeIn}
 use Rattle.gathering.proofs.ComingIn.{length-gathered}
 use Rattle.gathering.proofs.Faring.{each_more, set-same}
 use Rattle.gathering.proofs.Waiting.{pushes_more, new_beside, room-beside}
@@ -62,9 +62,6 @@ counted_if d Nothing q g = rw q (omega (arith, g))
 counted_if d Waiting q g = rw q g
 counted_if d Alone q g = rw q (omega (arith, g))
 
-pub one_more : (d : ℕ) {e : ℕ} {x : Bool} → e ≡ d + one x → x ≡ true → e ≡ d + 1
-one_more d g q = rw q at g
-
 pub none_more : (d : ℕ) {e : ℕ} {x : Bool} → e ≡ d + one x → x ≡ false → e ≡ d
 none_more d {e} g q = let i : e ≡ d + 0 = rw q at g in omega (arith, i)
 
@@ -73,9 +70,6 @@ none_more d {e} g q = let i : e ≡ d + 0 = rw q at g in omega (arith, i)
 module _ {n : ℕ} {b w : List ℕ} {d : ℕ} {st : State} {t : Table} (v : Beside n b w d st t) where
   pub beside_kept : Kept b
   beside_kept = record { state = on_table v.base st; sound = v.sound; writes = v.writes }
-
-  pub beside_gathers : Gathers b n w d
-  beside_gathers = record { state = on_table v.base st; sound = v.sound; writes = v.writes; entries = v.entries; aside = v.aside; room = v.room }
 
   abbrev all : Table
   all = pushes v.entries v.base
@@ -108,10 +102,6 @@ module _ {n : ℕ} {b w : List ℕ} {d : ℕ} {st : State} {t : Table} (v : Besi
         (beside_none (sound-marks st (keys_of v.entries) all keys v.together) (subst (λ (u : Table). Writes b₂ (on_table u st)) q g) e)
 
 module _ {n : ℕ} {b w : List ℕ} {d : ℕ} where
-  -- none is to come in
-  pub let_none : d ≡ 0 → LetIn n b b w w d
-  let_none e st t v = subst (λ (i : ℕ). Beside n b w i st t) e v
-
   pub let-in : {b₁ b₂ w₂ : List ℕ} → ComeIn b b₁ n w d → RowsMarked b₁ b₂ w d → Empty w₂ → LetIn n b b₂ w w₂ d
   let-in c m e st t v = came_in v c m e
 
