@@ -97,7 +97,7 @@ module _ (n : ℕ) (es : List Entry) (t : Table) (a : Each (Ready n) es) (o : Or
   unchanged : (h : ℕ) → waits h es ≡ false → count (by_under n h) (pushes es t) ≡ count (by_under n h) t
   unchanged h w = omega (arith, count-pushes (by_under n h) n es t a o, among_none n h es w)
 
-  candidate-beside : (h : ℕ) → is_candidate n h (pushes es t) ≡ (is_candidate n h t || waits h es)
+  pub candidate-beside : (h : ℕ) → is_candidate n h (pushes es t) ≡ (is_candidate n h t || waits h es)
   candidate-beside h =
       elim (test (waits h es)) [
         | inl w ↦ lt-ltb 0 (count (by_under n h) (pushes es t)) (omega (arith, count-pushes (by_under n h) n es t a o, among_some n h es a w)) ∙ sym (or_true (is_candidate n h t) (waits h es) w)
