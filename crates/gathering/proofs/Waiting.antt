@@ -12,7 +12,7 @@ use Rattle.ident.specs.Number.{Key, top}
 use Rattle.regions.specs.declared.Row.{Row}
 use Rattle.regions.specs.Regions.{insert_at}
 use Rattle.machine.specs.Limits.{Limits, max_peer_announcements}
-use Rattle.machine.specs.State.{Candidate, Entry, Table, Answer, done}
+use Rattle.machine.specs.State.{Candidate, Entry, Table, Answer, refused, done}
 use Rattle.machine.specs.Table.{at, one, any, by, under, by_under, count, held, held_by, held_at, is_candidate}
 use Rattle.machine.specs.Announce.{victims, greatest, anywhere, at_hash, evicting, push, announce_at}
 use Rattle.machine.specs.Sound.{Ordered}
@@ -137,8 +137,11 @@ module _ (m : Limits) (c : Candidate) (es : List Entry) (t : Table) (a : Each (R
     abbrev Full : Bool
     Full = leb m.announcements (held t + length es)
 
+    pub barred_out : Barred ≡ true → announce_at m k c (pushes es t) ≡ refused (pushes es t)
+    barred_out b = when-barred m k c (pushes es t) (barred-beside c.connection es t a o k ∙ b)
+
     pub taken-barred : Barred ≡ true → Taken k es
-    taken-barred b = ap (λ (x : Answer). x.table) (when-barred m k c (pushes es t) (barred-beside c.connection es t a o k ∙ b))
+    taken-barred b = ap (λ (x : Answer). x.table) (barred_out b)
 
     module _ (b : Barred ≡ false) where
       free : (is_candidate c.connection k.hash (pushes es t) || leb max_peer_announcements (held_by c.connection (pushes es t))) ≡ false
