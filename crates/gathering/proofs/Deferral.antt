@@ -122,13 +122,6 @@ module _ {b w v : List ℕ} {n d m : ℕ} {st : State} (f : Owing b w v n d m st
       aside-cuts st f.sound gone left first f.aside
       (each_map (λ (y : Row). (waits (key_at y).hash es ≡ false) × (eqb y.conn n ≡ false)) (λ (y : Row). waits (key_at y).hash es ≡ false) gone (λ y q. q.0) f.apart)
 
-  -- none of them is of the connection
-  pub left_candidate : (h : ℕ) → is_candidate n h u ≡ is_candidate n h t
-  left_candidate h =
-      ap (ltb 0) (cuts-count (by_under n h) st f.sound gone left first
-      (each_map (λ (y : Row). (waits (key_at y).hash es ≡ false) × (eqb y.conn n ≡ false)) (λ (y : Row). by_under n h (key_at y) y.conn ≡ false) gone
-      (λ y q. ap (λ (z : Bool). eqb (key_at y).hash h && z) q.1 ∙ and-false (eqb (key_at y).hash h)) f.apart))
-
   -- ---- at another hash than theirs the store says what is left
 
   module _ (k : Key) (e : Each (λ (y : Row). eqb (key_at y).hash k.hash ≡ false) gone) where

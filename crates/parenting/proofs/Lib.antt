@@ -1,4 +1,6 @@
 pub mod Marking
+pub mod Starting
+pub mod Lent
 pub mod Waiting
 pub mod Spent
 pub mod SpentStill

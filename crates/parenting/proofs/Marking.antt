@@ -10,12 +10,13 @@ use borrow.Author.Tests.{eqb-true, eqb-false}
 use Rattle.ident.specs.Number.{top, Key, place}
 use Rattle.ident.proofs.Places.{place_same as place-inj}
 use Rattle.regions.specs.declared.Row.{Row}
-use Rattle.machine.specs.State.{Candidate, Entry, Request, Table, State, on_table, marked}
+use Rattle.machine.specs.State.{Candidate, Entry, Request, Table, State, on_table, with_candidates, marked}
 use Rattle.machine.specs.Table.{at, keep, change, count_in, count, total}
+use Rattle.machine.specs.Announce.{push}
 use Rattle.machine.specs.Fail.{mark}
 use Rattle.machine.specs.Sound.{Ordered, All, Filled, Sound}
 use Rattle.machine.specs.Typed.{Each}
-use Rattle.machine.proofs.Announce.{each_append as each-both}
+use Rattle.machine.proofs.Announce.{each_append as each_both}
 use Rattle.machine.proofs.Tests.{test, or_left, or_right}
 use Rattle.machine.proofs.At.{KeepsKey}
 use Rattle.machine.proofs.Table.{at_key, ordered-change, filled-change}
@@ -40,14 +41,14 @@ count-mark q k (r ∷ t) =
     elim (test (ltb (place k) (place r.key))) [
       | inl e ↦ rw e
       | inr e ↦ rw e (elim (test (eqb (place k) (place r.key))) [
-        | inl d ↦ rw d (held-on r.candidates refl)
+        | inl d ↦ rw d (held_on r.candidates refl)
         | inr d ↦ rw d (ap (λ (n : ℕ). count_in (q r.key) r.candidates + n) (count-mark q k t))
       ])
     ]
   where
-    held-on : (cs : List Candidate) → r.candidates ≡ cs → count q (keep (marked r) cs t) ≡ count_in (q r.key) r.candidates + count q t
-    held-on [] e = rw e (let z : count q t ≡ 0 + count q t = omega arith in z)
-    held-on (c ∷ cs) e = refl
+    held_on : (cs : List Candidate) → r.candidates ≡ cs → count q (keep (marked r) cs t) ≡ count_in (q r.key) r.candidates + count q t
+    held_on [] e = rw e (let z : count q t ≡ 0 + count q t = omega arith in z)
+    held_on (c ∷ cs) e = refl
 
 pub count-marks : (q : Key → ℕ → Bool) (ks : List Key) (t : Table) → count q (marks ks t) ≡ count q t
 unfolding marks
@@ -80,17 +81,25 @@ module _ (j : Key) (f : Request → Request) (g : KeepsKey f) (s : j.hash < top)
       change-marks ks (mark k t) a.1 (ordered-change k marked 0 t (λ r. refl) (omega arith) a.0.small o) (filled-change k marked t l)
       ∙ ap (marks ks) (change-swap j k f marked t s a.0.small far g (λ r. refl) o l)
 
--- ---- in any order
+pub push-marks : (j : Key) (c : Candidate) (ks : List Key) (t : Table) → j.hash < top → Each (Else j.hash) ks → Ordered 0 t → All Filled t → push j c (marks ks t) ≡ marks ks (push j c t)
+push-marks j c ks t s a o l = change-marks j (λ r. with_candidates (r.candidates ++ (c ∷ [])) r) (λ r. refl) s ks t a o l
+
+-- ---- one more
 
 pub marks_more : (ks : List Key) (k : Key) (t : Table) → marks (ks ++ (k ∷ [])) t ≡ mark k (marks ks t)
 unfolding marks
 marks_more [] k t = refl
 marks_more (x ∷ ks) k t = marks_more ks k (mark x t)
 
-marks-both : (a b : List Key) (t : Table) → marks (a ++ b) t ≡ marks b (marks a t)
+pub keys_more : (es : List Entry) (a : Entry) → keys_of (es ++ (a ∷ [])) ≡ keys_of es ++ (a.key ∷ [])
+keys_more es a = map-append (λ (x : Entry). x.key) es (a ∷ [])
+
+-- ---- in any order
+
+marks_both : (a b : List Key) (t : Table) → marks (a ++ b) t ≡ marks b (marks a t)
 unfolding marks
-marks-both [] b t = refl
-marks-both (k ∷ a) b t = marks-both a b (mark k t)
+marks_both [] b t = refl
+marks_both (k ∷ a) b t = marks_both a b (mark k t)
 
 keys-placed : (r : Row) (ys : List Row) → TxKey (key_at r) → Each TxKey (row_keys ys) → Each TxKey (row_keys (placed r ys))
 keys-placed r ys x a =
@@ -98,7 +107,7 @@ keys-placed r ys x a =
     let v = beyond (number_of r) ys in
     let e : row_keys ys ≡ row_keys u ++ row_keys v = ap row_keys (sym (parted (number_of r) ys)) ∙ map-append key_at u v in
     let c = each_front TxKey (row_keys u) (row_keys v) (subst (Each TxKey) e a) in
-    subst (Each TxKey) (sym (ap row_keys (placed_is r ys) ∙ map-append key_at u (r ∷ v))) (each-both TxKey (row_keys u) (key_at r ∷ row_keys v) c.0 (x, c.1))
+    subst (Each TxKey) (sym (ap row_keys (placed_is r ys) ∙ map-append key_at u (r ∷ v))) (each_both TxKey (row_keys u) (key_at r ∷ row_keys v) c.0 (x, c.1))
 
 module _ (st : State) where
   mark-swap : (j k : Key) (t : Table) → TxKey j → TxKey k → Sound (on_table t st) → mark j (mark k t) ≡ mark k (mark j t)
@@ -108,10 +117,10 @@ module _ (st : State) where
         | inr e ↦ change-swap j k marked marked t x.small y.small (eqb-false (place j) (place k) e) (λ r. refl) (λ r. refl) s.bounded.ordered s.bounded.filled
       ]
 
-  marks-late : (ks : List Key) (k : Key) (t : Table) → Each TxKey ks → TxKey k → Sound (on_table t st) → marks ks (mark k t) ≡ mark k (marks ks t)
+  marks_late : (ks : List Key) (k : Key) (t : Table) → Each TxKey ks → TxKey k → Sound (on_table t st) → marks ks (mark k t) ≡ mark k (marks ks t)
   unfolding marks
-  marks-late [] k t a x s = refl
-  marks-late (j ∷ ks) k t a x s = ap (marks ks) (mark-swap j k t a.0 x s) ∙ marks-late ks k (mark j t) a.1 x (sound-mark st j t a.0 s)
+  marks_late [] k t a x s = refl
+  marks_late (j ∷ ks) k t a x s = ap (marks ks) (mark-swap j k t a.0 x s) ∙ marks_late ks k (mark j t) a.1 x (sound-mark st j t a.0 s)
 
   -- a row put in its place among others
   marks-placed : (r : Row) (ys : List Row) (t : Table) → TxKey (key_at r) → Each TxKey (row_keys ys) → Sound (on_table t st) → marks (row_keys (placed r ys)) t ≡ mark (key_at r) (marks (row_keys ys) t)
@@ -122,9 +131,9 @@ module _ (st : State) where
       let e : row_keys ys ≡ row_keys u ++ row_keys v = ap row_keys (sym (parted (number_of r) ys)) ∙ map-append key_at u v in
       let b : Each TxKey (row_keys u ++ row_keys v) = subst (Each TxKey) e a in
       let c = each_front TxKey (row_keys u) (row_keys v) b in
-      ap (λ (l : List Row). marks (row_keys l) t) (placed_is r ys) ∙ ap (λ (l : List Key). marks l t) (map-append key_at u (r ∷ v)) ∙ marks-both (row_keys u) (key_at r ∷ row_keys v) t
-      ∙ marks-late (row_keys v) (key_at r) (marks (row_keys u) t) c.1 x (sound-marks st (row_keys u) t c.0 s)
-      ∙ ap (mark (key_at r)) (sym (marks-both (row_keys u) (row_keys v) t) ∙ ap (λ (l : List Key). marks l t) (sym e))
+      ap (λ (l : List Row). marks (row_keys l) t) (placed_is r ys) ∙ ap (λ (l : List Key). marks l t) (map-append key_at u (r ∷ v)) ∙ marks_both (row_keys u) (key_at r ∷ row_keys v) t
+      ∙ marks_late (row_keys v) (key_at r) (marks (row_keys u) t) c.1 x (sound-marks st (row_keys u) t c.0 s)
+      ∙ ap (mark (key_at r)) (sym (marks_both (row_keys u) (row_keys v) t) ∙ ap (λ (l : List Key). marks l t) (sym e))
 
 -- ---- the rows of those that wait
 

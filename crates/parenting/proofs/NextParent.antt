@@ -19,7 +19,8 @@ use Rattle.gathering.specs.contracts.beside.FarePartialEq.TheImpl.{eq-value}
 use Rattle.gathering.specs.Deferring.{Deferred}
 use Rattle.parenting.specs.Waiting.{Waits as Waiting, LetIn, Next, NextIn}
 use Rattle.parenting.specs.Displacing.{Spent, Reserve, unlisted, ShutOut, Unknown, Unaided, Owes, Supplied, Supplies, Restocked, Settled, Further, FurtherAt, FurtherIn, FurtherAlone, DefersWith, SpentIn}
-use Rattle.parenting.proofs.Waiting.{none_sound, none_writes, alone_by}
+use Rattle.parenting.proofs.Starting.{none_sound, none_writes}
+use Rattle.parenting.proofs.Waiting.{alone_by}
 use Rattle.parenting.proofs.Spent.{spent_next, spent_left}
 use Rattle.parenting.proofs.Supplying.{some_listed, supplied_unlisted, supplied_listed}
 use Rattle.parenting.proofs.Deferred.{defers_reply, defers-owes, stays-owes, stays-reply, stays_table}
@@ -94,7 +95,7 @@ module _ {b : List ℕ} {n now h i : ℕ} where
       → SpentIn n now h i b b₂ w w₁ d r
   spent-alone p late short low x a st t v k =
       let y = x st t v in
-      alone_by y p late short low (a.reply (on_table t st) (none_sound y) (none_writes y) k) (a.table (on_table t st) (none_sound y) (none_writes y) k)
+      alone_by p late short low y (a.reply (on_table t st) (none_sound y) (none_writes y) k) (a.table (on_table t st) (none_sound y) (none_writes y) k)
 
   -- ---- where nothing is listed
 

@@ -27,8 +27,9 @@ use Rattle.gathering.specs.Waits.{pushes}
 use Rattle.gathering.specs.Deferring.{left_by, Gone}
 use Rattle.gathering.proofs.Deferral.{left_sound, left_held, left_aside}
 use Rattle.parenting.specs.Waiting.{marks, Beside, Waits, LetIn}
-use Rattle.parenting.specs.Displacing.{Spent, Reserve, unlisted, Lacks, Owes, Supplied, Supplies, Restocked, Settled, Finished}
-use Rattle.parenting.proofs.Waiting.{beside_kept, none_sound, none_writes, none_empty}
+use Rattle.parenting.specs.Displacing.{Spent, Reserve, unlisted, Lacks, Owes, Supplied, Supplies, Restocked, Settled}
+use Rattle.parenting.proofs.Starting.{none_sound, none_writes, none_empty}
+use Rattle.parenting.proofs.Waiting.{beside_kept}
 
 pub some_listed : (m : ℕ) → (m ≡ 0 → ⊥) → 0 < m
 some_listed m o = omega (arith, o)
@@ -127,10 +128,5 @@ module _ {n : ℕ} {b w v : List ℕ} {d : ℕ} {q : Reserve} where
     settled_gone {b₂ = b₂} {w₂ = w₂} g c e st t k =
         subst (λ (i : ℕ). Beside n b₂ w₂ i st t) (sym e) (c st t (owes_gone (k.owed (some_listed q.count o)) g))
 
-  module _ {b₁ w₁ : List ℕ} {e : ℕ} (x : Settled n b b₁ w w₁ v d e q) where
-    pub settled_waits : Supplies n b w v d q → Waits n b₁ w₁ e
-    settled_waits k = record { state = k.state; with_them = k.with_them; beside = x k.state k.with_them k.supplied }
-
-    -- those that are left come in
-    pub finished : {b₂ w₂ : List ℕ} → LetIn n b₁ b₂ w₁ w₂ e → Finished n b b₂ w v d q
-    finished c st t k = let y = c st t (x st t k) in (none_sound y, none_writes y)
+  pub settled_waits : {b₁ w₁ : List ℕ} {e : ℕ} → Settled n b b₁ w w₁ v d e q → Supplies n b w v d q → Waits n b₁ w₁ e
+  settled_waits x k = record { state = k.state; with_them = k.with_them; beside = x k.state k.with_them k.supplied }
