@@ -16,6 +16,7 @@ use Rattle.announcing.specs.Answers.{one_parent}
 use Rattle.gathering.specs.declared.beside.Fare.{Fare}
 use Rattle.gathering.specs.declared.beside.Fare.TheVariants.{Nothing, Waits, Alone}
 use Rattle.gathering.specs.contracts.beside.FarePartialEq.TheImpl.{eq-value}
+use Rattle.gathering.specs.Counted.{then_wait}
 use Rattle.gathering.specs.Deferring.{Deferred}
 use Rattle.parenting.specs.Waiting.{Waits as Waiting, LetIn, Next, NextIn}
 use Rattle.parenting.specs.Displacing.{Spent, Reserve, unlisted, ShutOut, Unknown, Unaided, Owes, Supplied, Supplies, Restocked, Settled, Further, FurtherAt, FurtherIn, FurtherAlone, DefersWith, SpentIn}
@@ -46,16 +47,17 @@ module _ {n now h i : ℕ} {b w w' v : List ℕ} {d : ℕ} {q : Reserve} (p : Pe
     alone = λ _ st t x. let l = some_listed q.count o in supplied_listed l (stays-owes (x.owed l) p late short low (by_fare same a Nothing e)) x.none_left;
   }
 
-  -- it waits, or changes nothing
-  pub defers_in : {u : Bool} → (r ≡ Nothing → Unknown b w' d h n u) → (r ≡ Nothing → u ≡ false) → DefersWith n now h i b w w' v d q r
-  defers_in u f = record {
+  -- it waits, or changes nothing: e wait then
+  pub defers_in : {e : ℕ} {u : Bool} → e ≡ then_wait d r → (r ≡ Nothing → Unknown b w' e h n u) → (r ≡ Nothing → u ≡ false) → DefersWith n now h i b w w' v d q r
+  defers_in {u = u} g k f = record {
     nothing = λ e st t x.
         let l = some_listed q.count o in
         let y = x.owed l in
         let c = by_fare same a Nothing e in
+        let unknown = subst (λ (j : ℕ). Unknown b w' j h n u) (g ∙ ap (then_wait d) e) (k e) in
         record {
-          reply = stays-reply y p late short low c (u e) (f e);
-          supplied = subst (λ (g : Table). Supplied n b w' v d st g q) (sym (stays_table y p late short low c (u e) (f e))) (supplied_listed l (stays-owes y p late short low c) x.none_left);
+          reply = stays-reply y p late short low c unknown (f e);
+          supplied = subst (λ (j : Table). Supplied n b w' v d st j q) (sym (stays_table y p late short low c unknown (f e))) (supplied_listed l (stays-owes y p late short low c) x.none_left);
         };
     waits = λ e st t x.
         let l = some_listed q.count o in
