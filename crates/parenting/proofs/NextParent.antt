@@ -117,23 +117,14 @@ module _ {b : List ℕ} {n now h i : ℕ} where
 
   -- ---- the whole
 
-  module _ {w w' v v' : List ℕ} {d : ℕ} {q q' : Reserve} {r : Fare} (x : Restocked n b w v v' d q q') (y : DefersWith n now h i b w w' v' d q' r) where
-    pub further_nothing : {e : ℕ} → r ≡ Nothing → e ≡ d → FurtherIn n now h i b b w w' v v' d q (record { kept = false; waiting = e; reserve = q' })
-    further_nothing {e} z c st t k = subst (λ (f : ℕ). FurtherAt n now h i b w' v' st t (record { kept = false; waiting = f; reserve = q' })) (sym c) (y.nothing z st t (x st t k))
-
-    pub further_waits : {e : ℕ} → r ≡ Waits → e ≡ d + 1 → FurtherIn n now h i b b w w' v v' d q (record { kept = true; waiting = e; reserve = q' })
-    further_waits {e} z c st t k = subst (λ (f : ℕ). FurtherAt n now h i b w' v' st t (record { kept = true; waiting = f; reserve = q' })) (sym c) (y.waits z st t (x st t k))
-
-    module _ (z : r ≡ Alone) where
-      pub deferred_supplies : Supplies n b w v d q → Supplies n b w' v' d q'
-      deferred_supplies k = record {
-        state = k.state;
-        with_them = k.with_them;
-        supplied = y.alone z k.state k.with_them (x k.state k.with_them k.supplied);
-      }
-
-      pub further-unlisted : {b₁ b₂ w₁ w₂ : List ℕ} {e : ℕ} {f : Further} → Settled n b b₁ w' w₁ v' d e q' → FurtherAlone n now h i b₁ b₂ w₁ w₂ e (unlisted q'.spent) f
-          → FurtherIn n now h i b b₂ w w₂ v v' d q f
-      further-unlisted s a st t k =
-          let o = y.alone z st t (x st t k) in
-          a v' st t (supplied_unlisted v' (s st t o) q'.spent o.none_left)
+  -- the victims that were listed go, and where none is listed any more it is announced
+  pub further-unlisted : {b₁ b₂ w w' w₁ w₂ v v' v₂ : List ℕ} {d d' e m : ℕ} {q q' g : Reserve} {kept : Bool} {r : Fare} → Restocked n b w v v' d q q' → DefersWith n now h i b w w' v' d q' r
+      → r ≡ Alone → d' ≡ then_wait d r → Settled n b b₁ w' w₁ v' d' e q' → g ≡ unlisted q'.spent
+      → FurtherAlone n now h i b₁ b₂ w₁ w₂ e (unlisted g.spent) (record { kept = kept; waiting = m; reserve = unlisted g.spent })
+      → FurtherIn n now h i b b₂ w w₂ v v₂ d q (record { kept = kept; waiting = m; reserve = g })
+  further-unlisted {b₂ = b₂} {w' = w'} {w₂ = w₂} {v' = v'} {v₂ = v₂} {d = d} {m = m} {q' = q'} {g = g} {kept = kept} x y z c s k a st t f =
+      let o = y.alone z st t (x st t f) in
+      let here = subst (λ (j : ℕ). Supplied n b w' v' j st t q') (sym (c ∙ ap (then_wait d) z)) o in
+      let same : g.spent ≡ q'.spent = ap (λ (j : Reserve). j.spent) k in
+      subst (λ (j : Reserve). FurtherAt n now h i b₂ w₂ v₂ st t (record { kept = kept; waiting = m; reserve = j })) (sym (k ∙ ap unlisted (sym same)))
+      (a v₂ st t (supplied_unlisted v₂ (s st t here) g.spent (λ l. o.none_left (sym same ∙ l))))
