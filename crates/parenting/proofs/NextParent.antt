@@ -94,7 +94,7 @@ module _ {b : List ℕ} {n now h i : ℕ} where
       → SpentIn n now h i b b₂ w w₁ d r
   spent-alone p late short low x a st t v k =
       let y = x st t v in
-      alone_by p late short low y (a.reply (on_table t st) (none_sound y) (none_writes y) k) (a.table (on_table t st) (none_sound y) (none_writes y) k)
+      alone_by y p late short low (a.reply (on_table t st) (none_sound y) (none_writes y) k) (a.table (on_table t st) (none_sound y) (none_writes y) k)
 
   -- ---- where nothing is listed
 
