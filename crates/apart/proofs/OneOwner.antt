@@ -41,7 +41,8 @@ use Rattle.apart.specs.declared.slots.Spot.{Spot}
 use Rattle.apart.specs.Bare.{bare_state}
 use Rattle.apart.specs.declared.lapsing.Progress.{Progress}
 use Rattle.apart.specs.Apart.{Slot, with_notes, dying, plain, Room, Altered, Clear, ClearFrom, SpotHeld, SpotNone, SpotIn, Apart, Parted}
-use Rattle.apart.specs.Noting.{picked, half_most, picked_in, Spent, Exhausted}
+use Rattle.parenting.specs.Displacing.{Spent, Exhausted}
+use Rattle.apart.specs.Noting.{picked, half_most, picked_in}
 use Rattle.apart.specs.Lapsing.{noted, ClearAt, nowhere, lapsed, LapsedTo, expire_at, PlaceExpired, ExpiredTo}
 use Rattle.apart.proofs.SlotWords.{plain-long}
 use Rattle.apart.proofs.BareTable.{sound-bare}

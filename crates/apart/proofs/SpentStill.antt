@@ -21,8 +21,8 @@ use Rattle.machine.proofs.Loosened.{left_key}
 use Rattle.machine.proofs.Table.{at_key, all_at, all_change, ordered-change, total-change}
 use Rattle.machine.proofs.Tests.{test, by_test}
 use Rattle.apart.specs.Bare.{bare, bare_request}
-use Rattle.apart.specs.Noting.{Spent}
-use Rattle.apart.proofs.Spent.{cons-nil, none_left, none_right, in_same}
+use Rattle.parenting.specs.Displacing.{Spent}
+use Rattle.parenting.proofs.Spent.{cons-nil, none_left, none_right, in_same}
 
 -- ---- packages set apart
 

@@ -23,7 +23,7 @@ use Rattle.package_stages.specs.Records.{place_hashes}
 use Rattle.apart.specs.Bare.{bare, bare_state}
 use Rattle.apart.specs.declared.lapsing.Progress.{Progress}
 use Rattle.apart.specs.Apart.{Slot, resting, plain, Clear, ClearFrom, Apart, Parted, Rested}
-use Rattle.apart.specs.Noting.{Spent, Exhausted}
+use Rattle.parenting.specs.Displacing.{Spent, Exhausted}
 use Rattle.apart.specs.Lapsing.{noted, ClearAt, Expires}
 use Rattle.apart.proofs.SlotWords.{plain-long, plain_rest}
 use Rattle.apart.proofs.BareTable.{sound-bare}
