@@ -44,8 +44,10 @@ module _ (z : List ℕ) (n now : ℕ) (from to : ℕ) where
   way-starts b w a d q st t x = record { now-table = t; supplied = x; bits = omega arith; rest = refl }
 
   module _ {b₀ w₀ a₀ b w a : List ℕ} {d₀ d : ℕ} {q₀ q : Reserve} {j r v : ℕ} (x : Way b₀ w₀ a₀ d₀ q₀ b w a d q j r v) where
-    pub way_supplies : Supplies n b₀ w₀ a₀ d₀ q₀ → Supplies n b w a d q
-    way_supplies k = let g = x k.state k.with_them k.supplied in record { state = k.state; with_them = g.now-table; supplied = g.supplied }
+    pub way_supplies : {p : Parent} → ParentAt z n now j p → Supplies n b₀ w₀ a₀ d₀ q₀ → Supplies p.connection.number b w a d q
+    way_supplies p k =
+        let g = x k.state k.with_them k.supplied in
+        subst (λ (m : ℕ). Supplies m b w a d q) (sym p.connection) (record { state = k.state; with_them = g.now-table; supplied = g.supplied })
 
     pub way_goes : {b' w' a' : List ℕ} {f : Further} {r' : ℕ} {p : Parent} → j < to → ParentAt z n now j p
         → FurtherIn p.connection.number p.clock (hash_num p.hash) p.priority b b' w w' a a' d q f → r' ≡ r + v * one f.kept → Way b₀ w₀ a₀ d₀ q₀ b' w' a' f.waiting f.reserve (j + 1) r' (v * 2)
@@ -97,9 +99,9 @@ pub half_supplies : {b b₁ w w₁ a a₁ hs : List ℕ} {n now i d : ℕ} {q : 
     → Supplies n b₁ w₁ a₁ r.waiting r.reserve
 half_supplies x k = record { state = k.state; with_them = _; supplied = (x k.state k.with_them k.supplied).supplied }
 
-module _ {b b₁ b₂ b₃ w₀ w₁ w₂ a₀ a₁ a₂ : List ℕ} {n now c e : ℕ} {q : Reserve} {spent : Bool} {x y : Half} (z : List ℕ) (empty : Empty w₀) (given : Exhausted b spent) (known : q ≡ unlisted spent)
+module _ {b b₁ b₂ b₃ w₀ w₁ w₂ a₀ a₁ a₂ : List ℕ} {n now c e : ℕ} {q : Reserve} {spent last : Bool} {x y : Half} (z : List ℕ) (empty : Empty w₀) (given : Exhausted b spent) (known : q ≡ unlisted spent)
     (h : Halved c e) (first : HalfIn n now b b₁ w₀ w₁ a₀ a₁ 0 (hashes_at z 0 (e - 0)) 0 q x)
-    (second : HalfIn n now b₁ b₂ w₁ w₂ a₁ a₂ e (hashes_at z e (c - e)) x.waiting x.reserve y) (finished : Finished n b₂ b₃ w₂ a₂ y.waiting y.reserve) where
+    (second : HalfIn n now b₁ b₂ w₁ w₂ a₁ a₂ e (hashes_at z e (c - e)) x.waiting x.reserve y) (finished : Finished n b₂ b₃ w₂ a₂ y.waiting y.reserve) (same : last ≡ y.reserve.spent) where
   abbrev hs : List ℕ
   hs = hashes_at z 0 c
 
@@ -138,8 +140,8 @@ module _ {b b₁ b₂ b₃ w₀ w₁ w₂ a₀ a₁ a₂ : List ℕ} {n now c e 
     written : Writes b₃ (on_table (parents_from (limits_of st) n now 0 hs st.table).table st)
     written = subst (λ (t : Table). Writes b₃ (on_table t st)) (sym table_is) (finished st _ half₂.supplied).1
 
-    none_left : y.reserve.spent ≡ true → Spent (parents_from (limits_of st) n now 0 hs st.table).table
-    none_left i = subst Spent (sym table_is) (half₂.supplied.none_left i)
+    none_left : last ≡ true → Spent (parents_from (limits_of st) n now 0 hs st.table).table
+    none_left i = subst Spent (sym table_is) (half₂.supplied.none_left (sym same ∙ i))
 
-  pub both_noted : Noted b b₃ n now hs (record { note = record { low = x.bits; high = y.bits }; spent = y.reserve.spent })
+  pub both_noted : Noted b b₃ n now hs (record { note = record { low = x.bits; high = y.bits }; spent = last })
   both_noted = record { keys = keys-are; table = written; none_left = none_left }

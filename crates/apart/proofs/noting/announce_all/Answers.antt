@@ -36,4 +36,4 @@ pub returns : goal.returns
 returns c = both_noted (words c.args.p.slot.now)
     c.none-new.ensures.1 c.requires.1
     c.nothing_listed-q.ensures c.first_half-e.ensures (rw c.none-new.ensures.0 at c.announce_bits-low.ensures) c.announce_bits-high.ensures
-    c.finish.ensures.0
+    c.finish.ensures.0 c.finish.ensures.1

@@ -11,7 +11,7 @@ pub announce_further-kept-requires : goal.announce_further-kept-requires
 announce_further-kept-requires c = way_supplies (words c.args.p.slot.now)
     c.args.p.connection.number c.args.p.clock
     c.args.from c.args.to
-    c.loop-j.invariant.3 c.requires.0
+    c.loop-j.invariant.3 c.parent.ensures c.requires.0
 
 pub loop-j-preserved : goal.loop-j-preserved
 loop-j-preserved c =
