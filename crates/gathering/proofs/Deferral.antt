@@ -38,7 +38,7 @@ use Rattle.gathering.specs.Aside.{space, PutIn, Aside, RowIn}
 use Rattle.gathering.specs.Deferring.{Owing, left_by, ShutOut, Suited, Instead, Owed}
 use Rattle.gathering.proofs.Waiting.{ordered-pushes, pushes_more, waits_not, barred_out, taken-crowded, taken-evicting}
 use Rattle.gathering.proofs.Faring.{each_more, aside_more}
-use Rattle.gathering.proofs.Exchanging.{cut-pushes, aside_still, victims-pushes}
+use Rattle.gathering.proofs.Elsewhere.{cut-pushes, aside_still, victims-pushes}
 
 -- ---- lists
 
