@@ -1,0 +1,8 @@
+pub mod Marking
+pub mod Starting
+pub mod Waiting
+pub mod Spent
+pub mod SpentStill
+pub mod Supplying
+pub mod Deferred
+pub mod NextParent
