@@ -91,9 +91,6 @@ unfolding marks
 marks_more [] k t = refl
 marks_more (x ∷ ks) k t = marks_more ks k (mark x t)
 
-pub keys_more : (es : List Entry) (a : Entry) → keys_of (es ++ (a ∷ [])) ≡ keys_of es ++ (a.key ∷ [])
-keys_more es a = map-append (λ (x : Entry). x.key) es (a ∷ [])
-
 -- ---- in any order
 
 marks_both : (a b : List Key) (t : Table) → marks (a ++ b) t ≡ marks b (marks a t)
@@ -123,7 +120,8 @@ module _ (st : State) where
   marks_late (j ∷ ks) k t a x s = ap (marks ks) (mark-swap j k t a.0 x s) ∙ marks_late ks k (mark j t) a.1 x (sound-mark st j t a.0 s)
 
   -- a row put in its place among others
-  marks-placed : (r : Row) (ys : List Row) (t : Table) → TxKey (key_at r) → Each TxKey (row_keys ys) → Sound (on_table t st) → marks (row_keys (placed r ys)) t ≡ mark (key_at r) (marks (row_keys ys) t)
+  marks-placed : (r : Row) (ys : List Row) (t : Table) → TxKey (key_at r) → Each TxKey (row_keys ys) → Sound (on_table t st)
+      → marks (row_keys (placed r ys)) t ≡ mark (key_at r) (marks (row_keys ys) t)
   unfolding marks
   marks-placed r ys t x a s =
       let u = upto (number_of r) ys in

@@ -1,8 +1,8 @@
 -- Parents that wait beside the store: one more waits, they come in, one is announced where none waits.
-use Prim.Native.Nat.{ℕ, suc, ◌+◌, ◌≤◌, ◌<◌}
+use Prim.Native.Nat.{ℕ, suc, ◌+◌, ◌<◌}
 use mathlib.Core.Path.{◌≡◌, refl, sym, ap, subst, ◌∙◌}
 use mathlib.Core.Bool.{Bool, true, false, ◌||◌}
-use mathlib.Core.List.{List, [], ◌∷◌, ◌++◌}
+use mathlib.Core.List.{List, [], ◌∷◌, ◌++◌, map-append}
 use mathlib.Core.Option.{some}
 use native.Mathlib.Omega.{arith}
 use lib.Dec.{leb}
@@ -29,10 +29,8 @@ use Rattle.machine.proofs.Tests.{by_test, never, or_left, or_right}
 use Rattle.store.specs.Gather.{key_at}
 use Rattle.store.specs.Image.{Writes}
 use Rattle.store.specs.Shown.{Kept}
-use Rattle.store.proofs.Counts.{held-rows}
 use Rattle.requests.specs.Changes.{Makes}
 use Rattle.requests.proofs.Holding.{either-kind}
-use Rattle.requests.proofs.Keeping.{sized_of}
 use Rattle.announcing.specs.Answers.{Answered, one_parent}
 use Rattle.gathering.specs.declared.beside.Fare.{Fare}
 use Rattle.gathering.specs.declared.beside.Fare.TheVariants.{Nothing, Waits as Waiting, Alone}
@@ -40,7 +38,7 @@ use Rattle.gathering.specs.contracts.beside.FarePartialEq.TheImpl.{eq-value}
 use Rattle.gathering.specs.Counted.{then_wait}
 use Rattle.gathering.specs.Merges.{gathered}
 use Rattle.gathering.specs.Waits.{pushes, waits}
-use Rattle.gathering.specs.Aside.{space, Empty, Aside, Joined, Enters, SetAside, Gathers, ComeIn}
+use Rattle.gathering.specs.Aside.{space, Empty, Aside, Joined, Enters, SetAside, ComeIn}
 use Rattle.gathering.proofs.ComingIn.{length-gathered}
 use Rattle.gathering.proofs.Faring.{each_more, set-same}
 use Rattle.gathering.proofs.Waiting.{pushes_more, new_beside, room-beside}
@@ -49,7 +47,8 @@ use Rattle.parenting.specs.declared.parent.Parent.{Parent}
 use Rattle.parenting.specs.contracts.parent.Parent as P
 use Rattle.parenting.proofs.parent.Parent.TheLaws as P'
 use Rattle.parenting.specs.Waiting.{marks, keys_of, row_keys, TxKey, Markable, RowsMarked, Parental, Beside, Waits, LetIn, NextAt, WaitsWith, NextIn}
-use Rattle.parenting.proofs.Marking.{count-marks, sound-marks, push-marks, marks_more, keys_more, entries-keys, entries-else, keys-gathered, marks-gathered}
+use Rattle.parenting.proofs.Starting.{beside_none, none_sound, none_writes, none_empty}
+use Rattle.parenting.proofs.Marking.{count-marks, sound-marks, push-marks, marks_more, entries-keys, entries-else, keys-gathered, marks-gathered}
 
 -- ---- a parent that is given
 
@@ -63,59 +62,14 @@ counted_if d Nothing q g = rw q (omega (arith, g))
 counted_if d Waiting q g = rw q g
 counted_if d Alone q g = rw q (omega (arith, g))
 
-pub one_more : (d : ℕ) {e : ℕ} {x : Bool} → e ≡ d + one x → x ≡ true → e ≡ d + 1
-one_more d g q = rw q at g
-
 pub none_more : (d : ℕ) {e : ℕ} {x : Bool} → e ≡ d + one x → x ≡ false → e ≡ d
 none_more d {e} g q = let i : e ≡ d + 0 = rw q at g in omega (arith, i)
-
--- ---- none waits
-
-none_of : (l : List Entry) → length l ≡ 0 → l ≡ []
-none_of [] e = refl
-none_of (a ∷ l) e = absurd (omega arith)
-
-module _ {n : ℕ} {b w : List ℕ} {st : State} {t : Table} where
-  pub beside_none : Sound (on_table t st) → Writes b (on_table t st) → Empty w → Beside n b w 0 st t
-  unfolding marks pushes gathered
-  beside_none s g e = record {
-    base = t;
-    entries = [];
-    parental = tt;
-    sound = s;
-    writes = g;
-    aside = record { ready = tt; idle = tt; count = refl; rows = e };
-    room = omega (arith, (sized_of (on_table t st) s).rows_few, held-rows t);
-    together = s;
-    table = refl;
-  }
-
-  module _ (v : Beside n b w 0 st t) where
-    nobody : v.entries ≡ []
-    nobody = none_of v.entries v.aside.count
-
-    whole : t ≡ v.base
-    unfolding marks pushes
-    whole = v.table ∙ ap (λ (l : List Entry). marks (keys_of l) (pushes l v.base)) nobody
-
-    pub none_sound : Sound (on_table t st)
-    none_sound = subst (λ (u : Table). Sound (on_table u st)) (sym whole) v.sound
-
-    pub none_writes : Writes b (on_table t st)
-    none_writes = subst (λ (u : Table). Writes b (on_table u st)) (sym whole) v.writes
-
-    pub none_empty : Empty w
-    unfolding gathered
-    none_empty = subst (λ (l : List Entry). Holds row_size row_words space (gathered v.base l []) w) nobody v.aside.rows
 
 -- ---- they come in
 
 module _ {n : ℕ} {b w : List ℕ} {d : ℕ} {st : State} {t : Table} (v : Beside n b w d st t) where
   pub beside_kept : Kept b
   beside_kept = record { state = on_table v.base st; sound = v.sound; writes = v.writes }
-
-  pub beside_gathers : Gathers b n w d
-  beside_gathers = record { state = on_table v.base st; sound = v.sound; writes = v.writes; entries = v.entries; aside = v.aside; room = v.room }
 
   abbrev all : Table
   all = pushes v.entries v.base
@@ -148,10 +102,6 @@ module _ {n : ℕ} {b w : List ℕ} {d : ℕ} {st : State} {t : Table} (v : Besi
         (beside_none (sound-marks st (keys_of v.entries) all keys v.together) (subst (λ (u : Table). Writes b₂ (on_table u st)) q g) e)
 
 module _ {n : ℕ} {b w : List ℕ} {d : ℕ} where
-  -- none is to come in
-  pub let_none : d ≡ 0 → LetIn n b b w w d
-  let_none e st t v = subst (λ (i : ℕ). Beside n b w i st t) e v
-
   pub let-in : {b₁ b₂ w₂ : List ℕ} → ComeIn b b₁ n w d → RowsMarked b₁ b₂ w d → Empty w₂ → LetIn n b b₂ w w₂ d
   let-in c m e st t v = came_in v c m e
 
@@ -163,6 +113,9 @@ pub waits_same : {b w w₁ : List ℕ} {n d : ℕ} → w₁ ≡ w → Waits n b 
 waits_same {b} {w} {w₁} {n} {d} e k = subst (λ (y : List ℕ). Waits n b y d) (sym e) k
 
 -- ---- one more waits
+
+pub keys_more : (es : List Entry) (a : Entry) → keys_of (es ++ (a ∷ [])) ≡ keys_of es ++ (a.key ∷ [])
+keys_more es a = map-append (λ (x : Entry). x.key) es (a ∷ [])
 
 module _ {n now h i : ℕ} {b w : List ℕ} {d : ℕ} {st : State} {t : Table} (v : Beside n b w d st t) (p : Peer n) (late : now < word) (short : i < word) (low : h < top) {w' : List ℕ}
     (a : SetAside b w w' d (some (txid h)) (parent_of n now h i) Waiting) where
@@ -253,15 +206,15 @@ bounded_one {m} {Q} {t} n now h i p w v s b =
     let b' = bounded-parent_at (txid h) (parent_of n now h i) s (record { item = refl; positive = p.positive; connection = p.small; ready = w; priority = v }) b in
     by_test (Bounded m Q) x.reply (λ e. bounded-mark h s b') (λ e. b')
 
+pub alone_by : {n now h i : ℕ} {b b' w : List ℕ} {st : State} {t : Table} {r : Bool} → Beside n b w 0 st t → Peer n → now < word → i < word → h < top
+    → r ≡ (one_parent (limits_of st) n now h i t).reply → Writes b' (on_table (one_parent (limits_of st) n now h i t).table st) → NextAt n now h i b' w st t (record { kept = r; waiting = 0 })
+alone_by {n} {now} {h} {i} v p late short low said made =
+    let s = none_sound v in
+    record { reply = said; beside = beside_none (sound-table s (bounded_one n now h i p late short low s.bounded)) made (none_empty v) }
+
 -- ---- what a call does with the next one
 
 module _ {n now h i : ℕ} (p : Peer n) (late : now < word) (short : i < word) (low : h < top) where
-  pub alone_by : {b b' w : List ℕ} {st : State} {t : Table} {r : Bool} → Beside n b w 0 st t → r ≡ (one_parent (limits_of st) n now h i t).reply
-      → Writes b' (on_table (one_parent (limits_of st) n now h i t).table st) → NextAt n now h i b' w st t (record { kept = r; waiting = 0 })
-  alone_by v said made =
-      let s = none_sound v in
-      record { reply = said; beside = beside_none (sound-table s (bounded_one n now h i p late short low s.bounded)) made (none_empty v) }
-
   waits_with : {b w w' : List ℕ} {d : ℕ} {k : Candidate} {r : Fare} → k ≡ parent_of n now h i → SetAside b w w' d (key_of k.item) k r → r ≡ Waiting → WaitsWith n now h i b w w' d true
   waits_with {b} {w} {w'} {d} {k} {r} q a e = record {
     joins = λ _ st t v.
@@ -281,7 +234,7 @@ module _ {n now h i : ℕ} (p : Peer n) (late : now < word) (short : i < word) (
       → NextIn n now h i b b₂ w w₂ d (record { kept = r; waiting = 0 })
   next_alone {b} {b₁} {d = d} e x a st t v =
       let y = x st t (subst (λ (z : List ℕ). Beside n b z d st t) (sym e) v) in
-      alone_by y (a.reply (on_table t st) (none_sound y) (none_writes y)) (a.table (on_table t st) (none_sound y) (none_writes y))
+      alone_by y p late short low (a.reply (on_table t st) (none_sound y) (none_writes y)) (a.table (on_table t st) (none_sound y) (none_writes y))
 
 -- ---- requests marked, one after the other
 
