@@ -1,6 +1,5 @@
 pub mod Starting
 pub mod Marking
-pub mod Starting
 pub mod Waiting
 pub mod Spent
 pub mod SpentStill
