@@ -34,7 +34,8 @@ use Rattle.gathering.proofs.Faring.{each_more}
 use Rattle.gathering.proofs.Waiting.{barred-beside, candidate-beside, held_beside, at_beside, pushes_more, waits_not}
 use Rattle.parenting.specs.Waiting.{marks, keys_of, TxKey, Parental}
 use Rattle.parenting.specs.Displacing.{Owes, Unknown}
-use Rattle.parenting.proofs.Marking.{count-marks, change-marks, sound-marks, marks_more, keys_more, entries-keys, entries-else, entries-preferred}
+use Rattle.parenting.proofs.Marking.{count-marks, change-marks, sound-marks, marks_more, entries-keys, entries-else, entries-preferred}
+use Rattle.parenting.proofs.Waiting.{keys_more}
 use Rattle.parenting.proofs.Spent.{victims-marks, refused-marked}
 
 module _ {n : ℕ} {b w v : List ℕ} {d m : ℕ} {st : State} {t : Table} (x : Owes n b w v d m st t) where
@@ -116,7 +117,8 @@ module _ {n : ℕ} {b w v : List ℕ} {d m : ℕ} {st : State} {t : Table} (x : 
       announced : announce_at l (txid h) c u ≡ done (push (txid h) c (cut j y u))
       unfolding evicting candidate_at
       announced =
-          let k : (is_candidate n h u || leb max_peer_announcements (held_by n u)) ≡ false = rw (unknown, same (by n)) (or_right (is_candidate n h all) (leb max_peer_announcements (held_by n all)) free) in
+          let k : (is_candidate n h u || leb max_peer_announcements (held_by n u)) ≡ false =
+          rw (unknown, same (by n)) (or_right (is_candidate n h all) (leb max_peer_announcements (held_by n all)) free) in
           let few : leb l.alternates (held_at h u) ≡ false = ap (leb l.alternates) (same (under h) ∙ at_beside n es left x.owing.aside.ready ordered h nowhere)
           ∙ lt-leb l.alternates (held_at h left) instead.room in
           let full : leb st.limit (held u) ≡ true = le-leb st.limit (held u)

@@ -1,4 +1,3 @@
-pub mod Starting
 pub mod Marking
 pub mod Waiting
 pub mod Spent

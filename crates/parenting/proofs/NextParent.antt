@@ -1,5 +1,5 @@
 -- The next parent, whatever is known of the victims: how it is announced, and what is known then.
-use Prim.Native.Nat.{ℕ, ◌+◌, ◌<◌}
+use Prim.Native.Nat.{ℕ, ◌<◌}
 use mathlib.Core.Path.{◌≡◌, refl, sym, ap, subst, ◌∙◌}
 use mathlib.Core.Bool.{Bool, true, false}
 use mathlib.Core.List.{List}
@@ -18,8 +18,8 @@ use Rattle.gathering.specs.declared.beside.Fare.TheVariants.{Nothing, Waits, Alo
 use Rattle.gathering.specs.contracts.beside.FarePartialEq.TheImpl.{eq-value}
 use Rattle.gathering.specs.Counted.{then_wait}
 use Rattle.gathering.specs.Deferring.{Deferred}
-use Rattle.parenting.specs.Waiting.{Waits as Waiting, LetIn, Next, NextIn}
-use Rattle.parenting.specs.Displacing.{Spent, Reserve, unlisted, ShutOut, Unknown, Unaided, Owes, Supplied, Supplies, Restocked, Settled, Further, FurtherAt, FurtherIn, FurtherAlone, DefersWith, SpentIn}
+use Rattle.parenting.specs.Waiting.{LetIn, Next, NextIn}
+use Rattle.parenting.specs.Displacing.{Spent, Reserve, unlisted, ShutOut, Unknown, Unaided, Supplied, Restocked, Settled, FurtherAt, FurtherIn, FurtherAlone, DefersWith, SpentIn}
 use Rattle.parenting.proofs.Starting.{none_sound, none_writes}
 use Rattle.parenting.proofs.Waiting.{alone_by}
 use Rattle.parenting.proofs.Spent.{spent_next, spent_left}
@@ -27,9 +27,6 @@ use Rattle.parenting.proofs.Supplying.{some_listed, supplied_unlisted, supplied_
 use Rattle.parenting.proofs.Deferred.{defers_reply, defers-owes, stays-owes, stays-reply, stays_table}
 
 -- ---- one more waits for a victim
-
-pub defers_none : {n now h i : ℕ} {b w v : List ℕ} {d : ℕ} {q : Reserve} → DefersWith n now h i b w w v d q Alone
-defers_none = record { nothing = λ e. cc; waits = λ e. cc; alone = λ _ st t k. k }
 
 -- by what was made of it
 by_fare : {n now h i : ℕ} {b w w' v : List ℕ} {d m : ℕ} {k : Candidate} {r : Fare} → k ≡ parent_of n now h i → Deferred b w w' v d m (key_of k.item) k r → (f : Fare) → r ≡ f
@@ -97,7 +94,7 @@ module _ {b : List ℕ} {n now h i : ℕ} where
       → SpentIn n now h i b b₂ w w₁ d r
   spent-alone p late short low x a st t v k =
       let y = x st t v in
-      alone_by p late short low y (a.reply (on_table t st) (none_sound y) (none_writes y) k) (a.table (on_table t st) (none_sound y) (none_writes y) k)
+      alone_by y p late short low (a.reply (on_table t st) (none_sound y) (none_writes y) k) (a.table (on_table t st) (none_sound y) (none_writes y) k)
 
   -- ---- where nothing is listed
 

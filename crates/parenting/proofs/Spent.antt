@@ -40,7 +40,7 @@ none_right [] b e = e
 none_right (x ∷ a) b e = absurd (cons-nil x (a ++ b) e)
 
 -- none anywhere, none at some keys
-pub spent_some : (p : Key → Bool) (t : Table) → Spent t → victims p t ≡ []
+spent_some : (p : Key → Bool) (t : Table) → Spent t → victims p t ≡ []
 unfolding victims
 spent_some p [] e = refl
 spent_some p (r ∷ t) e =

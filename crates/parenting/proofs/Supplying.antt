@@ -1,20 +1,14 @@
 -- What is known of the victims: some are listed, or it is known that there are none; those listed go, and the parents that wait for them come in.
-use Prim.Native.Nat.{ℕ, ◌≤◌, ◌<◌}
+use Prim.Native.Nat.{ℕ, ◌<◌}
 use mathlib.Core.Path.{◌≡◌, refl, sym, ap, subst, ◌∙◌}
-use mathlib.Core.Logic.{inl, inr}
 use mathlib.Core.Bool.{Bool, true, false, not}
 use mathlib.Core.List.{List, []}
 use native.Mathlib.Omega.{arith}
-use lib.Dec.{eqb}
-use borrow.Author.Tests.{eqb-true, eqb-false}
 use Rattle.std.specs.Prelude.{Option, is_some}
 use Rattle.regions.specs.declared.Row.{Row}
 use Rattle.machine.specs.State.{Table, State, on_table}
 use Rattle.machine.specs.Announce.{greatest, victims, anywhere}
-use Rattle.machine.specs.Sound.{Sound}
-use Rattle.machine.proofs.Tests.{test, never}
-use Rattle.store.specs.Image.{Writes}
-use Rattle.store.specs.Shown.{Kept}
+use Rattle.machine.proofs.Tests.{never}
 use Rattle.store.proofs.Counts.{held-rows}
 use Rattle.requests.specs.Changes.{Tells}
 use Rattle.requests.proofs.Keeping.{sized_of}
@@ -29,7 +23,6 @@ use Rattle.gathering.proofs.Deferral.{left_sound, left_held, left_aside}
 use Rattle.parenting.specs.Waiting.{marks, Beside, Waits, LetIn}
 use Rattle.parenting.specs.Displacing.{Spent, Reserve, unlisted, Lacks, Owes, Supplied, Supplies, Restocked, Settled}
 use Rattle.parenting.proofs.Starting.{none_sound, none_writes, none_empty}
-use Rattle.parenting.proofs.Waiting.{beside_kept}
 
 pub some_listed : (m : ℕ) → (m ≡ 0 → ⊥) → 0 < m
 some_listed m o = omega (arith, o)
@@ -39,16 +32,6 @@ supplied_unlisted v x s k = record { free = λ _. x; owed = λ l. absurd (omega 
 
 pub supplied_listed : {n : ℕ} {b w v : List ℕ} {d : ℕ} {st : State} {t : Table} {q : Reserve} → 0 < q.count → Owes n b w v d q.count st t → (q.spent ≡ true → Spent t) → Supplied n b w v d st t q
 supplied_listed l x k = record { free = λ e. absurd (omega arith); owed = λ _. x; none_left = k }
-
-supplied_kept : {n : ℕ} {b w v : List ℕ} {d : ℕ} {st : State} {t : Table} {q : Reserve} → Supplied n b w v d st t q → Kept b
-supplied_kept {st = st} {q = q} x =
-    elim (test (eqb q.count 0)) [
-      | inl e ↦ beside_kept (x.free (eqb-true q.count 0 e))
-      | inr e ↦ let y = x.owed (some_listed q.count (eqb-false q.count 0 e)) in record { state = on_table y.base st; sound = y.owing.sound; writes = y.owing.writes }
-    ]
-
-pub supplies_kept : {n : ℕ} {b w v : List ℕ} {d : ℕ} {q : Reserve} → Supplies n b w v d q → Kept b
-supplies_kept k = supplied_kept k.supplied
 
 -- once the victims have gone
 owes_gone : {n : ℕ} {b b₁ w v : List ℕ} {d m : ℕ} {st : State} {t : Table} → Owes n b w v d m st t → Gone b b₁ v m d → Beside n b₁ w d st t
@@ -104,29 +87,12 @@ module _ {n : ℕ} {b w v : List ℕ} {d : ℕ} {q : Reserve} where
         let z = bare a in
         supplied_unlisted v' (a.free (x.unknown e)) s (λ c. nobody (victims anywhere t) (sym (h (on_table t st) (none_sound z) (none_writes z)) ∙ none_found y (k ∙ ap not c))))
 
-  -- ---- of those that wait beside it
-
-  pub restocked_supplies : {v' : List ℕ} {q' : Reserve} → Restocked n b w v v' d q q' → Supplies n b w v d q → Supplies n b w v' d q'
-  restocked_supplies r k = record { state = k.state; with_them = k.with_them; supplied = r k.state k.with_them k.supplied }
-
   -- ---- victims go
 
-  pub settled_free : q.count ≡ 0 → Settled n b b w w v d d q
-  settled_free e st t k = k.free e
-
   module _ (o : q.count ≡ 0 → ⊥) where
-    pub supplies_victims : Supplies n b w v d q → VictimsIn b v q.count
-    supplies_victims k = (k.supplied.owed (some_listed q.count o)).listed
-
-    pub supplies_few : Supplies n b w v d q → d ≤ q.count
-    supplies_few k = (k.supplied.owed (some_listed q.count o)).owing.few
-
     pub gone_waits : {b₁ : List ℕ} → Gone b b₁ v q.count d → Supplies n b w v d q → Waits n b₁ w d
     gone_waits g k = record { state = k.state; with_them = k.with_them; beside = owes_gone (k.supplied.owed (some_listed q.count o)) g }
 
     pub settled_gone : {b₁ b₂ w₂ : List ℕ} {e : ℕ} → Gone b b₁ v q.count d → LetIn n b₁ b₂ w w₂ d → e ≡ 0 → Settled n b b₂ w w₂ v d e q
     settled_gone {b₂ = b₂} {w₂ = w₂} g c e st t k =
         subst (λ (i : ℕ). Beside n b₂ w₂ i st t) (sym e) (c st t (owes_gone (k.owed (some_listed q.count o)) g))
-
-  pub settled_waits : {b₁ w₁ : List ℕ} {e : ℕ} → Settled n b b₁ w w₁ v d e q → Supplies n b w v d q → Waits n b₁ w₁ e
-  settled_waits x k = record { state = k.state; with_them = k.with_them; beside = x k.state k.with_them k.supplied }
