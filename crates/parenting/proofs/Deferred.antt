@@ -29,7 +29,7 @@ use Rattle.gathering.specs.declared.beside.Fare.TheVariants.{Nothing, Waits}
 use Rattle.gathering.specs.Waits.{pushes, waits}
 use Rattle.gathering.specs.Deferring.{left_by, Instead, Owed, Deferred}
 use Rattle.gathering.proofs.Deferral.{left_sound, left_held, left_candidate}
-use Rattle.gathering.proofs.Exchanging.{cut-pushes, victims-pushes}
+use Rattle.gathering.proofs.Elsewhere.{cut-pushes, victims-pushes}
 use Rattle.gathering.proofs.Faring.{each_more}
 use Rattle.gathering.proofs.Waiting.{barred-beside, candidate-beside, held_beside, at_beside, pushes_more, waits_not}
 use Rattle.parenting.specs.Waiting.{marks, keys_of, TxKey, Parental}
