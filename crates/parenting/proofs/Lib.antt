@@ -1,3 +1,4 @@
+pub mod Starting
 pub mod Marking
 pub mod Waiting
 pub mod Spent
