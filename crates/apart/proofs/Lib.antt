@@ -9,7 +9,6 @@ pub mod Slotted
 pub mod Spotting
 pub mod Parting
 pub mod Notes
-pub mod SpentStill
 pub mod InHalves
 pub mod Overdue
 pub mod OneOwner
