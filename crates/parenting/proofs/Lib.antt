@@ -1,5 +1,5 @@
-pub mod Marking
 pub mod Starting
+pub mod Marking
 pub mod Waiting
 pub mod Spent
 pub mod SpentStill
