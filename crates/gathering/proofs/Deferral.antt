@@ -2,7 +2,7 @@
 use Prim.Native.Nat.{ℕ, suc, ◌+◌, ◌<◌}
 use mathlib.Core.Path.{◌≡◌, refl, sym, ap, subst, ◌∙◌}
 use mathlib.Core.Logic.{inl, inr}
-use mathlib.Core.Bool.{Bool, true, false, ◌&&◌, ◌||◌}
+use mathlib.Core.Bool.{Bool, true, false, ◌&&◌, ◌||◌, and-false}
 use mathlib.Core.List.{List, [], ◌∷◌, ◌++◌, map}
 use mathlib.Core.Option.{Option, some}
 use native.Mathlib.Omega.{arith}
@@ -16,7 +16,7 @@ use Rattle.regions.specs.declared.Row.{Row}
 use Rattle.regions.specs.Rows.{row_size, row_words, read_row}
 use Rattle.regions.specs.Regions.{Found}
 use Rattle.machine.specs.Limits.{max_peer_announcements}
-use Rattle.machine.specs.State.{Candidate, Entry, State, Table, Answer, limits_of, on_table}
+use Rattle.machine.specs.State.{Candidate, Entry, State, Table, Answer, refused, limits_of, on_table}
 use Rattle.machine.specs.Table.{at, by_under, by, under, held, held_by, held_at, is_candidate}
 use Rattle.machine.specs.Announce.{push, cut, victims, greatest, anywhere, at_hash, evicting, announce_at, announce_keyed}
 use Rattle.machine.specs.Sound.{Ordered, Sound}
@@ -35,10 +35,10 @@ use Rattle.announcing.proofs.GoneTogether.{cuts_more, cuts-sound, cuts_left, cut
 use Rattle.announcing.proofs.GoneBy.{each_front}
 use Rattle.gathering.specs.Waits.{pushes, Ready, waits, barred_beside}
 use Rattle.gathering.specs.Aside.{space, PutIn, Aside, RowIn}
-use Rattle.gathering.specs.Deferring.{Owing, left_by, ShutOut, Suited, Owed}
-use Rattle.gathering.proofs.Waiting.{ordered-pushes, pushes_more, waits_not, taken-barred, taken-crowded, taken-evicting}
+use Rattle.gathering.specs.Deferring.{Owing, left_by, ShutOut, Suited, Instead, Owed}
+use Rattle.gathering.proofs.Waiting.{ordered-pushes, pushes_more, waits_not, barred_out, taken-crowded, taken-evicting}
 use Rattle.gathering.proofs.Faring.{each_more, aside_more}
-use Rattle.gathering.proofs.Exchanging.{cut-pushes, aside_still, victims-pushes}
+use Rattle.gathering.proofs.Elsewhere.{cut-pushes, aside_still, victims-pushes}
 
 -- ---- lists
 
@@ -149,27 +149,42 @@ module _ {b w v : List ℕ} {n d m : ℕ} {st : State} (f : Owing b w v n d m st
         victims_there k.hash small t u f.sound.bounded.ordered left_sound.bounded.ordered (at_cuts (txid k.hash) small st f.sound gone left first e)
         (at_cuts (wtxid k.hash) small st f.sound gone left first e)
 
+  -- none of those that are to go is the connection's own
+  pub left_candidate : (h : ℕ) → is_candidate n h u ≡ is_candidate n h t
+  left_candidate h =
+      ap (ltb 0) (cuts-count (by_under n h) st f.sound gone left first
+      (each_map (λ (y : Row). (waits (key_at y).hash es ≡ false) × (eqb y.conn n ≡ false)) (λ (y : Row). by_under n h (key_at y) y.conn ≡ false) gone
+      (λ y q. ap (λ (z : Bool). eqb (key_at y).hash h && z) q.1 ∙ and-false (eqb (key_at y).hash h)) f.apart))
+
 -- ---- an announcement that changes nothing
 
 module _ {b w v : List ℕ} {d m : ℕ} {st : State} {c : Candidate} (f : Owing b w v c.connection d m st) where
+  pub owed_not : {x : Option Key} → announce_keyed (limits_of st) x c (pushes f.entries (left_by f)) ≡ refused (pushes f.entries (left_by f))
+      → Owed b w v d m x c st f.entries (left_by f)
+  owed_not q = record {
+    owing = f;
+    same = ap (λ (a : Answer). a.table) q;
+    enters = λ l. absurd (omega (arith, f.aside.count));
+    stays = λ _. (refl, refl, ap (λ (a : Answer). a.reply) q);
+  }
+
   -- it is barred, or there are eight at its hash of whom none can be evicted
   pub out_same : (k : Key) → k.hash < top → Each (λ (y : Row). eqb (key_at y).hash k.hash ≡ false) (take d f.listed.rows) → c.preferred ≡ true
-      → ShutOut (limits_of st) st.table f.entries k c → (announce_at (limits_of st) k c (pushes f.entries (left_by f))).table ≡ pushes f.entries (left_by f)
+      → ShutOut (limits_of st) st.table f.entries k c → announce_at (limits_of st) k c (pushes f.entries (left_by f)) ≡ refused (pushes f.entries (left_by f))
   unfolding evicting greatest
   out_same k small e p s =
       let l = limits_of st in
       let a = f.aside.ready in
       let o = (left_sound f).bounded.ordered in
       elim (test (barred_beside f.entries k c.connection (left_by f))) [
-        | inl z ↦ taken-barred l c f.entries (left_by f) a o k z
+        | inl z ↦ barred_out l c f.entries (left_by f) a o k z
         | inr z ↦ elim s.either [
-          | inl i ↦ taken-barred l c f.entries (left_by f) a o k (barred_same f k e ∙ i)
+          | inl i ↦ barred_out l c f.entries (left_by f) a o k (barred_same f k e ∙ i)
           | inr i ↦
               let none_there : victims (at_hash k.hash) (pushes f.entries (left_by f)) ≡ [] =
               victims_pushed c.connection k.hash small f.entries (left_by f) a o (waits_not l c f.entries (left_by f) a o k z) ∙ victims_same f k e small ∙ i.1 in
-              ap (λ (x : Answer). x.table)
-              (taken-crowded l c f.entries (left_by f) a o k z (le-leb l.alternates (held_at k.hash (left_by f)) (omega (arith, at_same f k e, i.0))) p
-              ∙ ap (λ (x : List Entry). evicting (greatest x) k c (pushes f.entries (left_by f))) none_there)
+              taken-crowded l c f.entries (left_by f) a o k z (le-leb l.alternates (held_at k.hash (left_by f)) (omega (arith, at_same f k e, i.0))) p
+              ∙ ap (λ (x : List Entry). evicting (greatest x) k c (pushes f.entries (left_by f))) none_there
         ]
       ]
 
@@ -224,6 +239,22 @@ module _ {b w v : List ℕ} {d m : ℕ} {st : State} (c : Candidate) (f : Owing 
           ∙ sym (pushes_more f.entries new (cut (key_at y) y.conn u))
           ∙ ap (pushes (f.entries ++ (new ∷ []))) (sym (ap (λ (vs : List Row). cuts vs st.table) one_more_lem ∙ cuts_more (take d f.listed.rows) y st.table))
 
+      -- it is the machine's victim that is to go
+      instead : Instead (limits_of st) (left_by f) f.entries k c (f.entries ++ (new ∷ [])) (cuts (take (d + 1) f.listed.rows) st.table)
+      instead =
+          let s = left_sound f in
+          let left = drop (suc d) f.listed.rows in
+          record {
+            row = y;
+            free = free;
+            room = omega (arith, at_same f k split.0, x.room);
+            greatest_is = first_greatest (on_table (left_by f) st) s y left here;
+            small = (first_goes (on_table (left_by f) st) s y left here).small;
+            apart = x.apart;
+            last = refl;
+            rest = ap (λ (vs : List Row). cuts vs st.table) one_more_lem ∙ cuts_more (take d f.listed.rows) y st.table;
+          }
+
       pub owed_in : {w' : List ℕ} {z : Row} → eqb y.conn c.connection ≡ false → d < space → RowIn b k c z → PutIn w w' d z
           → Owed b w' v (d + 1) m (some k) c st f.entries (left_by f)
       owed_in {w'} {z} mine sp row put =
@@ -248,6 +279,9 @@ module _ {b w v : List ℕ} {d m : ℕ} {st : State} (c : Candidate) (f : Owing 
               apart = subst (Each (P (es ++ (new ∷ [])))) (sym one_more_lem) apart;
             };
             same = table_is;
+            enters = λ _ i q. let e : k ≡ i = cc in
+                subst (λ (l : Key). Instead (limits_of st) (left_by f) es l c (es ++ (new ∷ [])) (cuts (take (d + 1) f.listed.rows) st.table)) e instead;
+            stays = λ q. absurd (omega (arith, f.aside.count));
           }
         where
           later : (vs : List Row) → Each (λ (r : Row). (waits (key_at r).hash f.entries ≡ false) × (eqb r.conn c.connection ≡ false)) vs

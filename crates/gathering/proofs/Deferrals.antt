@@ -37,7 +37,7 @@ use Rattle.gathering.specs.declared.beside.Fare.TheVariants.{Nothing, Waits, Alo
 use Rattle.gathering.specs.Waits.{waits}
 use Rattle.gathering.specs.Aside.{space, PutIn, BarredIn, WaitsAt, RowIn}
 use Rattle.gathering.specs.Deferring.{ListedAt, SuitsNot, SuitsToo, SuitedIn, Deferred}
-use Rattle.gathering.proofs.Deferral.{out_same, owed_in}
+use Rattle.gathering.proofs.Deferral.{owed_not, out_same, owed_in}
 
 -- ---- the rows listed, one after the other
 
@@ -114,7 +114,7 @@ module _ {b w v : List ℕ} {d : ℕ} {k : Key} {c : Candidate} {y : Row} (p : c
 module _ {b w v : List ℕ} {d m : ℕ} {c : Candidate} where
   pub deferred_none : Deferred b w w v d m none c Nothing
   unfolding announce_keyed
-  deferred_none = record { nothing = λ _ st f. record { owing = f; same = refl }; waits = λ e. cc; alone = λ _. refl }
+  deferred_none = record { nothing = λ _ st f. owed_not f refl; waits = λ e. cc; alone = λ _. refl }
 
   pub deferred_alone : {x : Option Key} → Deferred b w w v d m x c Alone
   deferred_alone = record { nothing = λ e. cc; waits = λ e. cc; alone = λ _. refl }
@@ -125,11 +125,8 @@ module _ {b w v : List ℕ} {d m : ℕ} {c : Candidate} where
     deferred_not x n = record {
       nothing = λ e st f.
           let s : SuitsNot b w v d k c = x.nothing e in
-          record {
-            owing = f;
-            same = out_same f k small (fewer f.listed.rows (omega (arith, f.listed.count)) (s.elsewhere refl f.listed.rows (omega (arith, f.listed.count)) f.listed.holds)) s.preferred
-                (s.out st f.sound f.writes f.entries f.aside);
-          };
+          owed_not f (out_same f k small (fewer f.listed.rows (omega (arith, f.listed.count)) (s.elsewhere refl f.listed.rows (omega (arith, f.listed.count)) f.listed.holds)) s.preferred
+          (s.out st f.sound f.writes f.entries f.aside));
       waits = λ e. absurd (n e);
       alone = λ _. refl;
     }

@@ -7,7 +7,7 @@ pub mod InOrder
 pub mod Looking
 pub mod Faring
 pub mod Arriving
-pub mod Exchanging
+pub mod Elsewhere
 pub mod Deferral
 pub mod Deferrals
 pub mod Departing

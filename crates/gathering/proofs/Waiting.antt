@@ -12,7 +12,7 @@ use Rattle.ident.specs.Number.{Key, top}
 use Rattle.regions.specs.declared.Row.{Row}
 use Rattle.regions.specs.Regions.{insert_at}
 use Rattle.machine.specs.Limits.{Limits, max_peer_announcements}
-use Rattle.machine.specs.State.{Candidate, Entry, Table, Answer, done}
+use Rattle.machine.specs.State.{Candidate, Entry, Table, Answer, refused, done}
 use Rattle.machine.specs.Table.{at, one, any, by, under, by_under, count, held, held_by, held_at, is_candidate}
 use Rattle.machine.specs.Announce.{victims, greatest, anywhere, at_hash, evicting, push, announce_at}
 use Rattle.machine.specs.Sound.{Ordered}
@@ -97,7 +97,7 @@ module _ (n : ℕ) (es : List Entry) (t : Table) (a : Each (Ready n) es) (o : Or
   unchanged : (h : ℕ) → waits h es ≡ false → count (by_under n h) (pushes es t) ≡ count (by_under n h) t
   unchanged h w = omega (arith, count-pushes (by_under n h) n es t a o, among_none n h es w)
 
-  candidate-beside : (h : ℕ) → is_candidate n h (pushes es t) ≡ (is_candidate n h t || waits h es)
+  pub candidate-beside : (h : ℕ) → is_candidate n h (pushes es t) ≡ (is_candidate n h t || waits h es)
   candidate-beside h =
       elim (test (waits h es)) [
         | inl w ↦ lt-ltb 0 (count (by_under n h) (pushes es t)) (omega (arith, count-pushes (by_under n h) n es t a o, among_some n h es a w)) ∙ sym (or_true (is_candidate n h t) (waits h es) w)
@@ -137,8 +137,11 @@ module _ (m : Limits) (c : Candidate) (es : List Entry) (t : Table) (a : Each (R
     abbrev Full : Bool
     Full = leb m.announcements (held t + length es)
 
+    pub barred_out : Barred ≡ true → announce_at m k c (pushes es t) ≡ refused (pushes es t)
+    barred_out b = when-barred m k c (pushes es t) (barred-beside c.connection es t a o k ∙ b)
+
     pub taken-barred : Barred ≡ true → Taken k es
-    taken-barred b = ap (λ (x : Answer). x.table) (when-barred m k c (pushes es t) (barred-beside c.connection es t a o k ∙ b))
+    taken-barred b = ap (λ (x : Answer). x.table) (barred_out b)
 
     module _ (b : Barred ≡ false) where
       free : (is_candidate c.connection k.hash (pushes es t) || leb max_peer_announcements (held_by c.connection (pushes es t))) ≡ false

@@ -6,16 +6,15 @@
 // region of its own has it and its count as one value (`rows::Waiting`). A clause that
 // names two values, as that there is room in the store for the rows, stays a clause.
 //
-// `set_aside`, `defer` and `exchange` find the key of an item and leave the rest to a step at that key (`_at`): of a key that is a parameter a proof knows that
-// its hash is below 2^256 (one function for both was tried, and has no such fact of the key that it found). The three have one shape and differ in what
-// they test and in whether a victim goes: one for all would take both as closures, of which one writes the lent store, and be longer than these.
+// `set_aside` and `defer` find the key of an item and leave the rest to a step at that key (`_at`): of a key that is a parameter a proof knows that
+// its hash is below 2^256 (one function for both was tried, and has no such fact of the key that it found). The two have one shape and differ in what
+// they test: one for both would take the test as a closure, and be longer than these.
 #![tactic(auto)]
 
 pub mod beside;
 pub mod coming;
 pub mod deferred;
 pub mod going;
-pub mod instead;
 pub mod region;
 pub mod rows;
 pub mod together;

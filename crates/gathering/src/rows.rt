@@ -9,12 +9,11 @@ ghost use Rattle.requests.specs.Changes.{candidate_of};
 ghost use Rattle.gathering.specs.declared.beside.Fare.TheVariants.{Waits};
 ghost use Rattle.gathering.specs.Aside.{space, Empty, SetAside};
 ghost use Rattle.gathering.specs.Deferring.{Deferred};
-ghost use Rattle.gathering.specs.Exchanges.{Underway, Exchanged};
 ghost use Rattle.gathering.specs.Counted.{then_wait};
 
 use crate::beside::Fare;
 use crate::region::ROOM;
-use crate::{beside, deferred, instead, region};
+use crate::{beside, deferred, region};
 use announcing::foremost::Victims;
 use requests::Candidate;
 
@@ -67,17 +66,6 @@ impl Waiting {
     {
         let m = self.count;
         let fare = deferred::defer(s, &mut self.bytes, m, top, c);
-        self.count_in(fare)
-    }
-
-    // The same where the p-th victim listed goes at once: `instead::exchange`.
-    pub fn exchange(&mut self, s: &mut [u8], top: &Victims, p: usize, c: Candidate) -> Fare
-        requires { Underway s.old (words self.old.bytes) (words top.now.bytes) c.connection self.old.count p top.now.count }
-        ensures { Exchanged s.old s.new (words self.old.bytes) (words self.new.bytes) (words top.now.bytes) self.old.count p top.now.count (key_of (item_num c.item))
-            (candidate_of c) result × (self.new.count ≡ then_wait self.old.count result) }
-    {
-        let m = self.count;
-        let fare = instead::exchange(s, &mut self.bytes, m, top, p, c);
         self.count_in(fare)
     }
 }

@@ -120,7 +120,7 @@ module _ (n now h i : ℕ) where
   pub record DefersWith (b w w' v : List ℕ) (d : ℕ) (q : Reserve) (r : Fare) : Type 0 where
     pub nothing : r ≡ fare.Nothing → (st : State) (t : Table) → Supplied n b w v d st t q → FurtherAt b w' v st t (record { kept = false; waiting = d; reserve = q })
     pub waits : r ≡ fare.Waits → (st : State) (t : Table) → Supplied n b w v d st t q → FurtherAt b w' v st t (record { kept = true; waiting = d + 1; reserve = q })
-    pub alone : r ≡ fare.Alone → w' ≡ w
+    pub alone : r ≡ fare.Alone → (st : State) (t : Table) → Supplied n b w v d st t q → Supplied n b w' v d st t q
 
   -- it is announced by itself, where no candidate can be evicted
   abbrev pub SpentIn : List ℕ → List ℕ → List ℕ → List ℕ → ℕ → Bool → Type 0

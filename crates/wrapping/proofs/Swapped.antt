@@ -29,7 +29,7 @@ use Rattle.gathering.specs.Waits.{pushes}
 use Rattle.gathering.specs.Aside.{space, Empty, Gathers, ComeIn}
 use Rattle.gathering.specs.Deferring.{Owing, left_by, OwedIn, Deferred, Gone}
 use Rattle.gathering.proofs.Deferral.{left_sound, left_held, left_fallen, left_aside}
-use Rattle.gathering.proofs.Exchanging.{victims-pushes}
+use Rattle.gathering.proofs.Elsewhere.{victims-pushes}
 use Rattle.gathering.proofs.Waiting.{held_beside}
 use Rattle.wrapping.specs.declared.offering.Terms.{Terms}
 use Rattle.claims.specs.Changes.{Becomes}
