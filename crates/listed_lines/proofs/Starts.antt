@@ -7,14 +7,17 @@ use mathlib.Core.Option.{Option, none, some}
 use mathlib.Core.Logic.{inl, inr}
 use native.Mathlib.Omega.{arith}
 use lib.Dec.{eqb}
-use borrow.Author.Tests.{eqb-true, ne_eqb}
+use lib.ListN.{length}
+use borrow.Author.Tests.{eqb-true, eqb-false, ne_eqb}
 use Rattle.std.specs.Prelude as Rust
 use Rattle.std.specs.Prelude.{Some, None, if◌then◌else◌}
+use Rattle.ident.specs.declared.Kind.{Kind}
+use Rattle.ident.specs.declared.Kind.TheVariants.{Txid, Wtxid}
 use Rattle.ident.specs.Number.{Item}
-use Rattle.machine.specs.State.{Candidate, is_some}
-use Rattle.machine.specs.Text.{decimal}
+use Rattle.machine.specs.State.{Candidate, Request, is_some}
+use Rattle.machine.specs.Text.{decimal, kind_letter}
 use Rattle.machine.specs.Fields.{digit_of, numeral_of, number_of, push, fields, with_value, taking}
-use Rattle.machine.specs.Listing.{Line, CandidateLine, short, Digital, key_in, item_in, head_of, request_of, candidate_fields, candidate_of, first_of, line_of}
+use Rattle.machine.specs.Listing.{Line, RequestLine, CandidateLine, short, Digital, key_field, key_in, item_in, head_of, request_fields, request_of, candidate_fields, candidate_of, first_of, line_of}
 use Rattle.machine.proofs.Tests.{test, never}
 use Rattle.machine.proofs.Readers.{taking_not}
 use Rattle.machine.proofs.Forms.{short-fits, digital_decimal}
@@ -154,6 +157,9 @@ begins_with c m n = rw (ne_eqb c 44 n) (pushed (fields m))
     pushed [] = record { first = []; others = []; parts = refl }
     pushed (f ∷ fs) = record { first = f; others = fs; parts = refl }
 
+same_head : {f g : List ℕ} {fs gs : List (List ℕ)} → f ∷ fs ≡ g ∷ gs → f ≡ g
+same_head e = cc
+
 pub keyed-no-candidate : (l : List ℕ) → keyed l ≡ true → (c : Candidate) → line_of short (fields l) ≡ some (CandidateLine c) → ⊥
 unfolding candidate_fields
 keyed-no-candidate [] e c g = never e
@@ -164,6 +170,24 @@ keyed-no-candidate (x ∷ m) e c g =
     let u : decimal c.connection ≡ x ∷ w.first = same_head (sym t.0 ∙ w.parts) in
     let v : Digital (x ∷ w.first) = rw u at (digital_decimal c.connection) in
     omega (arith, v.0, d)
-  where
-    same_head : {f g : List ℕ} {fs gs : List (List ℕ)} → f ∷ fs ≡ g ∷ gs → f ≡ g
-    same_head e = cc
+
+-- ---- a request's line begins with one
+
+letter_keyed : (k : Kind) (m : List ℕ) → keyed (kind_letter k ∷ m) ≡ true
+letter_keyed Txid m = refl
+letter_keyed Wtxid m = refl
+
+first_keyed : {c : ℕ} {f g : List ℕ} (k : Kind) (m : List ℕ) → c ∷ f ≡ kind_letter k ∷ g → keyed (c ∷ m) ≡ true
+first_keyed {c} k m e = let d : c ≡ kind_letter k = cc in rw d (letter_keyed k m)
+
+pub request-keyed : (l : List ℕ) (q : Request) → line_of short (fields l) ≡ some (RequestLine q) → keyed l ≡ true
+unfolding request_fields key_field fields
+request-keyed [] q g =
+    let t = line-text short short-fits (fields []) (RequestLine q) g in
+    absurd (omega (arith, ap length (same_head t.0)))
+request-keyed (x ∷ m) q g =
+    let t = line-text short short-fits (fields (x ∷ m)) (RequestLine q) g in
+    elim (test (eqb x 44)) [
+      | inl u ↦ absurd (omega (arith, ap length (same_head (rw u at t.0))))
+      | inr u ↦ let w = begins_with x m (eqb-false x 44 u) in first_keyed q.key.kind m (same_head (sym w.parts ∙ t.0))
+    ]
