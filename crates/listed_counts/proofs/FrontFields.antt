@@ -1,13 +1,12 @@
 -- The front of a line that is of a form: its fields are those that the line writes (machine/proofs/ListingLines), so what was read first is what it writes first.
-use Prim.Native.Nat.{ℕ, ◌+◌, ◌-◌, ◌<◌, ◌≤◌}
+use Prim.Native.Nat.{ℕ, ◌+◌, ◌-◌, ◌<◌}
 use mathlib.Core.Path.{◌≡◌, refl, sym, ap, subst, ◌∙◌}
 use mathlib.Core.Bool.{Bool, true, false}
-use mathlib.Core.List.{List, [], ◌∷◌, ◌++◌}
+use mathlib.Core.List.{List, [], ◌∷◌}
 use mathlib.Core.Option.{Option, none, some}
 use native.Mathlib.Omega.{arith}
 use lib.ListN.{length, take, drop, length-drop}
 use Rattle.std.specs.Prelude as answer
-use Rattle.std.specs.Prelude.{Some, None}
 use Rattle.ident.specs.declared.Kind.TheVariants.{Txid}
 use Rattle.ident.specs.declared.ItemKind.TheVariants.{Transaction}
 use Rattle.machine.specs.Limits.{word}
@@ -23,16 +22,14 @@ use Rattle.machine.proofs.Forms.{short-fits, digital_decimal, digits_not_none}
 use Rattle.machine.proofs.ListingLines.{line-text}
 use Rattle.lines.specs.Values.{number_in}
 use Rattle.lines.proofs.Splitting.{rest_field, rest_start}
-use Rattle.reading.specs.declared.fields.Parsed.{Parsed}
-use Rattle.reading.specs.Given.{At, number_at}
+use Rattle.reading.specs.Given.{At}
 use Rattle.listed_lines.specs.declared.parts.Owner as parts-owner
 use Rattle.listed_lines.specs.Starts.{keyed}
-use Rattle.listed_lines.specs.Given.{Reader, Took, owner_of, owner_at, lines_of_text}
+use Rattle.listed_lines.specs.Given.{Reader, Took, lines_of_text}
 use Rattle.listed_lines.proofs.Starts.{keyed-no-candidate, request-keyed}
 use Rattle.listed_lines.proofs.Ends.{no_end, line-ends}
 use Rattle.listed_form.proofs.Stepping.{parted}
 use Rattle.listed_counts.specs.declared.fronts.Front.{Front}
-use Rattle.listed_counts.specs.declared.fronts.Front.TheVariants.{Nobody, Owner as IsOwner, Connection}
 use Rattle.listed_counts.specs.Fronts.{owner_number, added, number_for, Behind, FrontIn, OwnerIn, FrontRead}
 
 -- ---- a value that was read is the one that any reading of the fields gives

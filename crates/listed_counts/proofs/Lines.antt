@@ -4,7 +4,7 @@ use mathlib.Core.Path.{◌≡◌, refl, sym, ap, ◌∙◌}
 use mathlib.Core.Bool.{Bool, true, false}
 use mathlib.Core.List.{List, [], ◌∷◌, ◌++◌}
 use mathlib.Core.Option.{Option, none, some}
-use lib.ListN.{length, drop, drop_of_length-le}
+use lib.ListN.{length, drop_of_length-le}
 use Rattle.machine.specs.State.{Owner, is_some}
 use Rattle.machine.specs.Listing.{Line, HeadLine, RequestLine, CandidateLine, Rest, candidate_then, request_then, rest_of}
 use Rattle.machine.proofs.Tests.{never}

@@ -7,7 +7,7 @@ use Rattle.machine.specs.State.{Table}
 use Rattle.machine.specs.Table.{held, held_by, owned_by}
 use Rattle.machine.specs.Listing.{Line, Rest}
 use Rattle.machine.specs.SoundTest.{every, is_filled}
-use Rattle.heavy.specs.Counters.{names_with, counts_with, names_of, counted_with, counts_of, sum, Few}
+use Rattle.heavy.specs.Counters.{names_with, counts_with, names_of, counted_with, counts_of, Few}
 use Rattle.heavy.specs.Streams.{line_connections, line_owners}
 use Rattle.listed_form.specs.Given.{Body, requests_only}
 
