@@ -4,4 +4,5 @@ pub mod Letters
 pub mod Splitting
 pub mod Sameness
 pub mod Hashes
+pub mod HashWords
 pub mod Finding
