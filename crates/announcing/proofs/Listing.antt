@@ -6,7 +6,7 @@ use mathlib.Core.List.{List, [], ◌∷◌, ◌++◌, append-nil}
 use native.Mathlib.Numerals.{add-one}
 use native.Mathlib.Omega.{arith}
 use lib.ListN.{length, take, get_or, length-append}
-use lib.Seq.{take-suc, take_all, length-take-le}
+use lib.Seq.{take-suc, length-take-le}
 use Rattle.ident.specs.Number.{Key, txid}
 use Rattle.words.specs.Words.{splice}
 use Rattle.words.proofs.Splice.{length-splice}
@@ -23,7 +23,7 @@ use Rattle.machine.proofs.AnswerLengths.{length-key_answer}
 use Rattle.store.specs.Image.{Writes}
 use Rattle.store.specs.Shown.{Kept}
 use Rattle.lent_lists.proofs.Answer.{written_more, written_none}
-use Rattle.announcing.specs.Answers.{Answered, KeysListed, one_parent}
+use Rattle.announcing.specs.Answers.{Answered, one_parent}
 use Rattle.announcing.proofs.Repeats.{key_if, dedup_new, dedup-met, repeat_same, new_keys, new_table}
 
 -- the bytes s write the state with this table
@@ -119,9 +119,6 @@ hashes-take (suc i) [] a = tt
 hashes-take (suc i) (h ∷ hs) a = (a.0, hashes-take i hs a.1)
 
 module _ {n now kept priority i : ℕ} {hs s₀ u₀ u : List ℕ} {W : State → Table → Type 0} (v : Turned n now hs s₀ u₀ u kept priority i W) where
-  pub turned_done : i ≡ length hs → Listing n now hs s₀ u₀ u kept W
-  turned_done e = rw (e, take_all (length hs) hs (omega arith)) at v.listing
-
   module _ (inside : i < length hs) (x : ℕ) (q : x ≡ get_or hs i 0) where
     grown : take (i + 1) hs ≡ take i hs ++ (x ∷ [])
     grown = rw (add-one i, q) (take-suc hs i 0 inside)
@@ -195,6 +192,3 @@ one_written a = record { reply = λ st t g w. a.reply (on_table t st) g w; table
 module _ {n now kept priority i : ℕ} {hs s₀ s u₀ u : List ℕ} (v : Turned n now hs s₀ u₀ u kept priority i (written_in s)) where
   pub turned_kept : i < length hs → Peer n → now < word → FewHashes hs → Kept s₀ → Kept s
   turned_kept inside p late f k = record { state = _; sound = turned_sound v inside _ refl p late f k.state k.sound; writes = v.listing.table k.state k.sound k.writes }
-
-  pub turned_listed : i ≡ length hs → KeysListed s₀ s u₀ u kept (λ m t. announce_parents m n now hs t)
-  turned_listed e = let l = turned_done v e in record { count = l.count; keys = l.keys; table = l.table }

@@ -6,3 +6,4 @@ pub mod SpentStill
 pub mod Supplying
 pub mod Deferred
 pub mod NextParent
+pub mod Listing

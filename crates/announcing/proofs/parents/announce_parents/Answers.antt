@@ -1,12 +1,12 @@
 -- `announcing::parents::announce_parents` meets its contract.
-use Prim.Native.Nat.{ℕ, ◌<◌}
+use Prim.Native.Nat.{◌<◌}
 use mathlib.Core.Path.{refl, sym, ◌∙◌}
 use native.Mathlib.Omega.{arith}
 use lib.ListN.{length}
 use Rattle.machine.specs.Limits.{word}
 use Rattle.machine.proofs.Fail.{Peer, FewHashes}
 use Rattle.lent_lists.specs.Lists.{hashes_in}
-use Rattle.announcing.proofs.Listing.{absent, keyed, turned_start, turned_as, turned_repeat, turned_kept, turned_left, turned_more, turned_listed, one_written}
+use Rattle.announcing.proofs.Listing.{absent, keyed, turned_start, turned_as, turned_repeat, turned_kept, turned_left, turned_more, one_written}
 use Rattle.announcing.proofs.Lent.{few_hashes, peer_of}
 use Rattle.announcing.proofs.parents.announce_parents.Goals as goal
 use Rattle.announcing.proofs.parents.announce_parents.Goals.{then-not-occurs_before, then-announce_parent, else-announce_parent, else-not-occurs_before}
@@ -42,6 +42,3 @@ loop-i-preserved c =
           turned_as w.s-is w.out-is w.kept-is w.priority-is
           (turned_repeat v inside _ refl (sym c.occurs_before.ensures ∙ w.if-not-occurs_before.false))
     ]
-
-pub returns : goal.returns
-returns c = turned_listed c.loop-i.invariant (omega (arith, c.loop-i-test.false, c.loop-i.invariant.inside, c.hashes-count.ensures))
