@@ -1,4 +1,4 @@
--- The wtxids of a place, put in one after the other; and one place changed several times.
+-- A list of a place, its hashes put in one after the other; and one place changed several times.
 use Prim.Native.Nat.{ℕ, ◌+◌, ◌≤◌, ◌<◌}
 use mathlib.Core.Path.{◌≡◌, refl, sym, ap, subst, ◌∙◌}
 use mathlib.Core.List.{List, [], ◌∷◌, ◌++◌}
@@ -7,7 +7,7 @@ use native.Mathlib.Omega.{arith}
 use lib.ListN.{length, take, get_or, set, length-set}
 use lib.Seq.{length-take-le, take-suc, set-get_or, set-set, get_or-set_same}
 use Rattle.places.specs.declared.Head.{Head}
-use Rattle.places.specs.Places.{Place, head_of, with_wtxids}
+use Rattle.places.specs.Places.{Place, head_of, with_wtxids, with_parents}
 use Rattle.machine.specs.State.{State}
 use Rattle.machine.specs.Sound.{Sound}
 use Rattle.store.specs.Flat.{Flat, flat_of, rows_of, places_of}
@@ -18,7 +18,7 @@ use Rattle.store.proofs.Frame.{sizes, shown}
 use Rattle.store.proofs.Missing.{each_at}
 use Rattle.store.proofs.ToFlat.{flat_sound}
 use Rattle.requests.proofs.Keeping.{sized_of, light_of}
-use Rattle.package_stages.specs.Records.{PushedIn, NoWtxids, ListedIn}
+use Rattle.package_stages.specs.Records.{PushedIn, NoneListed, ListedIn}
 use Rattle.package_stages.proofs.Seeking.{head-stage}
 
 -- as many places as before
@@ -47,7 +47,7 @@ module _ {b b' : List ℕ} (s : Shown b) (i : ℕ) (g : Place → Place) (d : Pl
   pub turned_inside : i < held_places_in b → i < held_places_in b'
   turned_inside = set-inside s i _ (turn s.flat s.shows)
 
-module _ {b b' : List ℕ} {i : ℕ} {hs : List ℕ} (k : NoWtxids b i) (d : Place) (turn : ListedIn b b' i hs) where
+module _ (with-list : List ℕ → Place → Place) {b b' : List ℕ} {i : ℕ} {list : Place → List ℕ} {hs : List ℕ} (k : NoneListed b i list) (d : Place) (turn : ListedIn b b' i list with-list hs) where
   pub listed-shown : Shown b'
   listed-shown = set-shown k.is_shown i _ (turn k.is_shown.flat d (k.none_yet d) k.is_shown.shows)
 
@@ -72,7 +72,7 @@ flag-empty st s i d l e =
     let f = each_at (PlaceFits (rows_of st.table)) (places_of st.table) i d (flat_sound st s).places-fit l in
     (subst (λ (n : ℕ). StageFits n p) e f.stage).1
 
-pub no-wtxids : {b : List ℕ} {i : ℕ} {x : Head} (k : Kept b) → i < held_places_in b → ((f : Flat) (d : Place) → Shows b f → x ≡ head_of (get_or f.places i d)) → x.stage ≡ 1 → NoWtxids b i
+pub no-wtxids : {b : List ℕ} {i : ℕ} {x : Head} (k : Kept b) → i < held_places_in b → ((f : Flat) (d : Place) → Shows b f → x ≡ head_of (get_or f.places i d)) → x.stage ≡ 1 → NoneListed b i (λ p. p.wtxids)
 no-wtxids {b} {i} k l reads e =
     let z = sizes k.writes in
     let m : i < length (places_of k.state.table) = omega arith in
@@ -84,37 +84,54 @@ no-wtxids {b} {i} k l reads e =
 
 -- ---- the loop: the first j hashes are in
 
-pub record Filled (b b' : List ℕ) (i : ℕ) (hs : List ℕ) (j : ℕ) : Type 0 where
+-- a list of a place, as it is read and as it is changed
+pub record Lens (list : Place → List ℕ) (with-list : List ℕ → Place → Place) : Type 0 where
+  pub got : (hs : List ℕ) (p : Place) → list (with-list hs p) ≡ hs
+  pub again : (hs gs : List ℕ) (p : Place) → with-list hs (with-list gs p) ≡ with-list hs p
+  pub same : (p : Place) → with-list (list p) p ≡ p
+
+pub wtxids-lens : Lens (λ p. p.wtxids) with_wtxids
+wtxids-lens = record { got = λ hs p. refl; again = λ hs gs p. refl; same = λ p. refl }
+
+pub parents-lens : Lens (λ p. p.parents) with_parents
+parents-lens = record { got = λ hs p. refl; again = λ hs gs p. refl; same = λ p. refl }
+
+pub record Filled (b b' : List ℕ) (i : ℕ) (list : Place → List ℕ) (with-list : List ℕ → Place → Place) (hs : List ℕ) (j : ℕ) : Type 0 where
   pub most : j ≤ length hs
   pub long : length b' ≡ length b
-  pub turns : ListedIn b b' i (take j hs)
+  pub turns : ListedIn b b' i list with-list (take j hs)
 
-pub filled_none : {b : List ℕ} (i : ℕ) (hs : List ℕ) → Filled b b i hs 0
-filled_none {b} i hs = record {
-  most = omega arith;
-  long = refl;
-  turns = λ f d e h.
-      let p = get_or f.places i d in
-      let same : set f.places i (with_wtxids [] p) ≡ f.places = ap (λ (l : List ℕ). set f.places i (with_wtxids l p)) (sym e) ∙ set-get_or f.places i d in
-      subst (λ (ps : List Place). Shows b (with_places ps f)) (sym same) h;
-}
-
-module _ {b b' : List ℕ} {i : ℕ} {hs : List ℕ} {j : ℕ} (k : NoWtxids b i) (u : Filled b b' i hs j) where
-  pub filled_more : {b'' : List ℕ} {x : ℕ} → j < length hs → x ≡ get_or hs j 0 → length b'' ≡ length b' → PushedIn b' b'' i (λ p. p.wtxids) with_wtxids j x → Filled b b'' i hs (j + 1)
-  filled_more {b''} {x} l ex n push = record {
+module _ {list : Place → List ℕ} {with-list : List ℕ → Place → Place} (lens : Lens list with-list) where
+  pub filled_none : {b : List ℕ} (i : ℕ) (hs : List ℕ) → Filled b b i list with-list hs 0
+  filled_none {b} i hs = record {
     most = omega arith;
-    long = n ∙ u.long;
+    long = refl;
     turns = λ f d e h.
-        let ps = f.places in
-        let p = get_or ps i d in
-        let z = sizes h in
-        let inside : i < length ps = omega (arith, k.inside) in
-        let a = with_wtxids (take j hs) p in
-        let there : get_or (set ps i a) i d ≡ a = get_or-set_same ps i a d inside in
-        let count : length (take j hs) ≡ j = length-take-le j hs (omega arith) in
-        let y = push (with_places (set ps i a) f) d (ap (λ (w : Place). length w.wtxids) there ∙ count) (u.turns f d e h) in
-        let longer : take j hs ++ (x ∷ []) ≡ take (j + 1) hs = rw (ex, add-one j) (sym (take-suc hs j 0 l)) in
-        let new : set (set ps i a) i (with_wtxids ((get_or (set ps i a) i d).wtxids ++ (x ∷ [])) (get_or (set ps i a) i d)) ≡ set ps i (with_wtxids (take (j + 1) hs) p) =
-        ap (λ (w : Place). set (set ps i a) i (with_wtxids (w.wtxids ++ (x ∷ [])) w)) there ∙ set-set ps i a _ ∙ ap (λ (w : List ℕ). set ps i (with_wtxids w p)) longer in
-        subst (λ (qs : List Place). Shows b'' (with_places qs f)) new y;
+        let p = get_or f.places i d in
+        let same : set f.places i (with-list [] p) ≡ f.places =
+        ap (λ (l : List ℕ). set f.places i (with-list l p)) (sym e) ∙ ap (set f.places i) (lens.same p) ∙ set-get_or f.places i d in
+        subst (λ (ps : List Place). Shows b (with_places ps f)) (sym same) h;
   }
+
+  module _ {b b' : List ℕ} {i : ℕ} {hs : List ℕ} {j : ℕ} (k : NoneListed b i list) (u : Filled b b' i list with-list hs j) where
+    pub filled_more : {b'' : List ℕ} {x : ℕ} → j < length hs → x ≡ get_or hs j 0 → length b'' ≡ length b' → PushedIn b' b'' i list with-list j x → Filled b b'' i list with-list hs (j + 1)
+    filled_more {b''} {x} l ex n push = record {
+      most = omega arith;
+      long = n ∙ u.long;
+      turns = λ f d e h.
+          let ps = f.places in
+          let p = get_or ps i d in
+          let z = sizes h in
+          let inside : i < length ps = omega (arith, k.inside) in
+          let a = with-list (take j hs) p in
+          let there : get_or (set ps i a) i d ≡ a = get_or-set_same ps i a d inside in
+          let listed : list (get_or (set ps i a) i d) ≡ take j hs = ap list there ∙ lens.got (take j hs) p in
+          let count : length (take j hs) ≡ j = length-take-le j hs (omega arith) in
+          let y = push (with_places (set ps i a) f) d (ap length listed ∙ count) (u.turns f d e h) in
+          let longer : take j hs ++ (x ∷ []) ≡ take (j + 1) hs = rw (ex, add-one j) (sym (take-suc hs j 0 l)) in
+          let new : set (set ps i a) i (with-list (list (get_or (set ps i a) i d) ++ (x ∷ [])) (get_or (set ps i a) i d)) ≡ set ps i (with-list (take (j + 1) hs) p) =
+          ap (λ (gs : List ℕ). set (set ps i a) i (with-list (gs ++ (x ∷ [])) (get_or (set ps i a) i d))) listed
+          ∙ ap (λ (w : Place). set (set ps i a) i (with-list (take j hs ++ (x ∷ [])) w)) there ∙ set-set ps i a _
+          ∙ ap (set ps i) (lens.again (take j hs ++ (x ∷ [])) (take j hs) p) ∙ ap (λ (w : List ℕ). set ps i (with-list w p)) longer in
+          subst (λ (qs : List Place). Shows b'' (with_places qs f)) new y;
+    }

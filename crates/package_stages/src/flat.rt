@@ -5,7 +5,7 @@ ghost use Rattle.lent_lists.specs.Lists.{hashes_in};
 ghost use Rattle.regions.specs.Rows.{quad_number};
 ghost use Rattle.places.specs.Places.{Place, list_most, with_combined, with_wtxids, with_parents};
 ghost use Rattle.store.specs.Shown.{held_places_in, Shown, with_places, Turns, Seek};
-ghost use Rattle.package_stages.specs.Records.{place_hashes, HashIn, PushedIn, NoWtxids, ListedIn};
+ghost use Rattle.package_stages.specs.Records.{place_hashes, HashIn, PushedIn, NoneListed, ListedIn};
 
 use store::layout::places_part;
 
@@ -54,8 +54,8 @@ pub fn push_wtxid(s: &mut [u8], i: usize, n: usize, h: regions::Quad)
 
 // Makes the hashes of a list of 32 bytes each the wtxids of the i-th place, which has none.
 pub fn push_wtxids(s: &mut [u8], i: usize, list: &[u8])
-    requires { NoWtxids s.old i × (length (hashes_in list.now) ≤ list_most) }
-    ensures { ListedIn s.old s.new i (hashes_in list.now) }
+    requires { NoneListed s.old i (λ p. p.wtxids) × (length (hashes_in list.now) ≤ list_most) }
+    ensures { ListedIn s.old s.new i (λ p. p.wtxids) with_wtxids (hashes_in list.now) }
 {
     let n = lent_lists::hashes(list);
     for j in 0..n {
@@ -72,4 +72,17 @@ pub fn push_parent(s: &mut [u8], i: usize, n: usize, h: regions::Quad)
 {
     let part = places_part(s);
     places::push_parent(&mut s[part], i, n, h);
+}
+
+// Makes the hashes of a list of 32 bytes each the parents of the i-th place, which has none.
+pub fn push_parents(s: &mut [u8], i: usize, list: &[u8])
+    requires { NoneListed s.old i (λ p. p.parents) × (length (hashes_in list.now) ≤ list_most) }
+    ensures { ListedIn s.old s.new i (λ p. p.parents) with_parents (hashes_in list.now) }
+{
+    let n = lent_lists::hashes(list);
+    for j in 0..n {
+        let h = lent_lists::hash_in(list, j);
+        let q = regions::Quad::from(h);
+        push_parent(s, i, j, q);
+    }
 }

@@ -13,8 +13,8 @@ use Rattle.store.specs.Image.{Shows}
 use Rattle.store.specs.Shown.{places_in, held_places_in, Sized, Shown, with_rows, with_places, Turns}
 use Rattle.store.proofs.Frame.{sizes}
 use Rattle.store.proofs.RowsAt.{insert_seam}
-use Rattle.package_stages.specs.Records.{NoWtxids, ListedIn}
-use Rattle.restoring.specs.Given.{Appends, NoParents, ParentsIn}
+use Rattle.package_stages.specs.Records.{NoneListed, ListedIn}
+use Rattle.restoring.specs.Given.{Appends}
 
 -- put in at the end
 insert_end : {A : Type 0} (l : List A) (i : ℕ) (x : A) → i ≡ length l → insert_at i x l ≡ l ++ (x ∷ [])
@@ -57,10 +57,10 @@ module _ {b b₁ : List ℕ} {n : ℕ} (z : Shown b) (room : held_places_in b < 
   is_last : (d : Place) → get_or (z.flat.places ++ (p ∷ [])) n d ≡ p
   is_last d = get_or_at z.flat.places p [] d n (sym (e z.flat z.shows))
 
-  pub last_bare : p.wtxids ≡ [] → NoWtxids b₁ n
+  pub last_bare : p.wtxids ≡ [] → NoneListed b₁ n (λ q. q.wtxids)
   last_bare g = record { is_shown = last_shown; inside = last_inside; none_yet = λ d. ap (λ (q : Place). q.wtxids) (is_last d) ∙ g }
 
-  pub last_orphan : p.parents ≡ [] → NoParents b₁ n
+  pub last_orphan : p.parents ≡ [] → NoneListed b₁ n (λ q. q.parents)
   last_orphan g = record { is_shown = last_shown; inside = last_inside; none_yet = λ d. ap (λ (q : Place). q.parents) (is_last d) ∙ g }
 
 -- what is stored in the last place
@@ -74,11 +74,11 @@ module _ {b b₁ b₂ : List ℕ} {n : ℕ} (e : (f : Flat) → Shows b f → n 
       let y = turn (with_places (ps ++ (p ∷ [])) f) last (a f h) in
       subst (λ (qs : List Place). Shows b₂ (with_places qs f)) (ap (λ (q : Place). set (ps ++ (p ∷ [])) n (g q)) last ∙ set_at ps p [] (g p) n (sym (e f h))) y
 
-  pub last_wtxids : (hs : List ℕ) → p.wtxids ≡ [] → ListedIn b₁ b₂ n hs → Appends b b₂ (with_wtxids hs p)
+  pub last_wtxids : (hs : List ℕ) → p.wtxids ≡ [] → ListedIn b₁ b₂ n (λ q. q.wtxids) with_wtxids hs → Appends b b₂ (with_wtxids hs p)
   last_wtxids hs g turn = changed (with_wtxids hs) p (λ f l h. turn f p (ap (λ (q : Place). q.wtxids) l ∙ g) h)
 
   pub last_combined : (c : ℕ) → ((d : Place) → Turns b₁ b₂ (λ f. with_places (set f.places n (with_combined c (get_or f.places n d))) f)) → Appends b b₂ (with_combined c p)
   last_combined c turn = changed (with_combined c) p (λ f l h. turn p f h)
 
-  pub last_parents : (hs : List ℕ) → p.parents ≡ [] → ParentsIn b₁ b₂ n hs → Appends b b₂ (with_parents hs p)
+  pub last_parents : (hs : List ℕ) → p.parents ≡ [] → ListedIn b₁ b₂ n (λ q. q.parents) with_parents hs → Appends b b₂ (with_parents hs p)
   last_parents hs g turn = changed (with_parents hs) p (λ f l h. turn f p (ap (λ (q : Place). q.parents) l ∙ g) h)

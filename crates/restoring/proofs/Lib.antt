@@ -1,6 +1,5 @@
 pub mod Headers
 pub mod LineFields
-pub mod ParentLists
 pub mod Appending
 pub mod TakingLines
 pub mod Walking

@@ -20,16 +20,6 @@ use Rattle.listed_form.specs.Given.{Body, requests_only}
 
 -- ---- a place
 
--- the i-th place has no parents
-pub record NoParents (b : List ℕ) (i : ℕ) : Type 0 where
-  pub is_shown : Shown b
-  pub inside : i < held_places_in b
-  pub none_yet : (d : Place) → (get_or is_shown.flat.places i d).parents ≡ []
-
--- the hashes hs become the parents of the i-th place, which had none
-abbrev pub ParentsIn : List ℕ → List ℕ → ℕ → List ℕ → Type 0
-ParentsIn b b' i hs = (f : Flat) (d : Place) → (get_or f.places i d).parents ≡ [] → Shows b f → Shows b' (with_places (set f.places i (with_parents hs (get_or f.places i d))) f)
-
 -- the place p comes behind the others
 abbrev pub Appends : List ℕ → List ℕ → Place → Type 0
 Appends b b' p = Turns b b' (λ f. with_places (f.places ++ (p ∷ [])) f)

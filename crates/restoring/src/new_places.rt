@@ -7,25 +7,12 @@ ghost use Rattle.store.specs.Flat.{places_for};
 ghost use Rattle.store.specs.Shown.{places_in, held_places_in, Shown, with_places, Turns};
 ghost use Rattle.package_stages.specs.Changes.{stage_word};
 ghost use Rattle.listed_lines.specs.Given.{list_room, hashes_of, package_of, request_in};
-ghost use Rattle.restoring.specs.Given.{NoParents, ParentsIn, Appends, stage_for, combined_for, wtxids_for, PlaceRoom};
+ghost use Rattle.restoring.specs.Given.{Appends, stage_for, combined_for, wtxids_for, PlaceRoom};
 
 use ident::HASH_BYTES;
 use listed_lines::line::Request;
 use listed_lines::parts::Package;
 use package_stages::{Stage, flat};
-
-// Makes the hashes of a list of 32 bytes each the parents of the i-th place, which has none.
-fn push_parents(s: &mut [u8], i: usize, list: &[u8])
-    requires { NoParents s.old i × (length (hashes_in list.now) ≤ list_most) }
-    ensures { ParentsIn s.old s.new i (hashes_in list.now) }
-{
-    let n = lent_lists::hashes(list);
-    for j in 0..n {
-        let h = lent_lists::hash_in(list, j);
-        let q = regions::Quad::from(h);
-        flat::push_parent(s, i, j, q);
-    }
-}
 
 // One place more, behind the others; its lists have 32 bytes for each hash.
 fn append_place(
@@ -49,7 +36,7 @@ fn append_place(
     store::package_places::open_place(s, i, hash, u64::from(stage));
     flat::push_wtxids(s, i, wtxids);
     flat::set_combined(s, i, combined);
-    push_parents(s, i, parents);
+    flat::push_parents(s, i, parents);
 }
 
 // ---- what a line says of its place

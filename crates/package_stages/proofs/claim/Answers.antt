@@ -36,7 +36,7 @@ set_combined-requires c =
     let k = no-wtxids c.requires.0
     (c.in-Ok.ensures.inside refl) c.place_at-x.ensures
     c.if-x-eq-FLAG.true in
-    (listed-shown k (blank 0 0) c.push_wtxids.ensures, listed-inside k (blank 0 0) c.push_wtxids.ensures)
+    (listed-shown with_wtxids k (blank 0 0) c.push_wtxids.ensures, listed-inside with_wtxids k (blank 0 0) c.push_wtxids.ensures)
 
 pub set_stage-requires : goal.set_stage-requires
 set_stage-requires c =
@@ -45,8 +45,8 @@ set_stage-requires c =
     (c.in-Ok.ensures.inside refl)
     c.place_at-x.ensures
     c.if-x-eq-FLAG.true in
-    let x = listed-shown k d c.push_wtxids.ensures in
-    let y = listed-inside k d c.push_wtxids.ensures in
+    let x = listed-shown with_wtxids k d c.push_wtxids.ensures in
+    let y = listed-inside with_wtxids k d c.push_wtxids.ensures in
     let i = c.in-Ok.i in
     let g = with_combined (quad_number c.from-q.result) in
     let turn = c.set_combined.ensures d in

@@ -1,19 +1,21 @@
--- `restoring::new_places::push_parents` meets its contract. The loop's invariant: the first j hashes are in.
 use native.Mathlib.Omega.{arith}
 use Prim.Native.Nat.{◌<◌}
 use mathlib.Core.Path.{ap, ◌∙◌}
 use lib.ListN.{length}
 use Rattle.lent_lists.specs.Lists.{hashes_in}
 use Rattle.regions.specs.Rows.{quad_number}
-use Rattle.places.specs.Places.{blank}
 use Rattle.regions.proofs.Order.{number_quad}
-use Rattle.restoring.proofs.ParentLists.{parents-shown, parents-inside, filled_more}
-use Rattle.restoring.proofs.new_places.push_parents.Goals as goal
+use Rattle.places.specs.Places.{blank, with_parents}
+use Rattle.package_stages.proofs.Filling.{parents-lens, filled_none, listed-shown, listed-inside, filled_more}
+use Rattle.package_stages.proofs.flat.push_parents.Goals as goal
+
+pub loop-j-init : goal.loop-j-init
+loop-j-init c = (filled_none parents-lens c.args.i (hashes_in c.args.list.now), c.hashes-n.ensures)
 
 pub push_parent-requires : goal.push_parent-requires
 push_parent-requires c = (
-  parents-shown c.requires.0 (blank 0 0) c.loop-j.invariant.0.turns,
-  parents-inside c.requires.0 (blank 0 0) c.loop-j.invariant.0.turns,
+  listed-shown with_parents c.requires.0 (blank 0 0) c.loop-j.invariant.0.turns,
+  listed-inside with_parents c.requires.0 (blank 0 0) c.loop-j.invariant.0.turns,
   omega (arith, c.requires.1, c.loop-j.invariant.1, c.loop-j-test.true),
 )
 
@@ -24,7 +26,7 @@ loop-j-preserved c =
     < length (hashes_in c.args.list.now) =
     omega (arith, inv.1, c.loop-j-test.true) in
     let x = ap quad_number c.from-q.ensures.words_are ∙ number_quad _ ∙ c.hash_in-h.ensures in (
-      filled_more c.requires.0 inv.0 l x c.push_parent.auto.s
+      filled_more parents-lens c.requires.0 inv.0 l x c.push_parent.auto.s
           c.push_parent.ensures,
       inv.1,
     )
