@@ -4,14 +4,13 @@
 // asks that the bytes write some sound state, and room where a row is added.
 #![tactic(auto)]
 
-ghost use Rattle.std.specs.Prelude.{◌≡◌, ◌+◌, ◌-◌, ◌≤◌, ◌<◌, map, length, true, false};
+ghost use Rattle.std.specs.Prelude.{◌≡◌, ◌+◌, ◌-◌, ◌≤◌, ◌<◌, map, true, false};
 ghost use Rattle.std.proofs.Math.Option.{none};
 ghost use Rattle.ident.specs.Number.{place};
 ghost use Rattle.ident.specs.Words.{hash_num, key_num};
-ghost use Rattle.machine.specs.Limits.{max_announcements};
 ghost use Rattle.regions.specs.Rows.{key_number, with_deadline, with_bits, with_ready};
 ghost use Rattle.machine.specs.State.{owner_is, owned_until, unowned, with_candidates, ready_at};
-ghost use Rattle.machine.specs.Table.{at, change, has, held_at, is_candidate, one};
+ghost use Rattle.machine.specs.Table.{at, change, has, is_candidate, one};
 ghost use Rattle.machine.specs.Announce as machine;
 ghost use Rattle.machine.specs.Fail as fail;
 ghost use Rattle.regions.specs.Packed.{bit};
@@ -142,14 +141,6 @@ pub fn figures(s: &[u8], n: u64) -> regions::Conn
 
 // ---- a hash
 
-// How many candidates the hash h has, over both kinds.
-pub fn candidates_at(s: &[u8], h: ident::Hash) -> usize
-    requires { Kept s.now }
-    ensures { Tells s.now (λ t. result ≡ held_at (hash_num h) t) }
-{
-    windows::candidates_in(s, h, windows::windows_of(s, h))
-}
-
 // Whether the connection n is a candidate at the hash h, under either kind.
 pub fn is_candidate(s: &[u8], h: ident::Hash, n: u64) -> bool
     requires { Kept s.now }
@@ -231,16 +222,7 @@ pub fn adopt_in(s: &mut [u8], k: ident::Key, w: Window, c: Candidate, same: bool
     }
 }
 
-// The candidate of c's connection at k adopts what c brings.
-pub fn adopt(s: &mut [u8], k: ident::Key, c: Candidate, same: bool)
-    requires { Kept s.old }
-    ensures { Makes s.old s.new (λ t. has c.connection (at (key_num k) t).candidates ≡ true) (machine.adopted same (key_num k) (candidate_of c)) }
-{
-    let w = window_of(s, regions::Key::from(k));
-    adopt_in(s, k, w, c, same);
-}
-
-// ---- the owner (each of `own`, `disown` and, above, `adopt` finds its row and stores it changed: one function over a closure of the row would say, in a
+// ---- the owner (each of `own`, `disown` and, above, `adopt_in` finds its row and stores it changed: one function over a closure of the row would say, in a
 // law of three lines, what these three lines do)
 
 // The row of who comes to own its request, and of who ceases to. (Here the bit is changed, and its number says by how much.)
