@@ -28,12 +28,12 @@ use Rattle.machine.proofs.Tests.{test, never, and_left, and_right}
 use Rattle.words.specs.Words.{splice}
 use Rattle.store.specs.Image.{Writes}
 use Rattle.store.specs.Shown.{Kept}
+use Rattle.lent_lists.proofs.Answer.{written_more, written_none}
 use Rattle.requests.specs.Changes.{Makes, Tells}
 use Rattle.announcing.specs.Answers.{KeysListed}
 use Rattle.failing.proofs.Leaving.{owner_of_lem}
 use Rattle.apart.specs.Silent.{late, dropped_all, Unburdened}
 use Rattle.wrapping.specs.Lapses.{Timely, lapses, lapsed, lapse_one, in_turn, lapse_each, all_keyed}
-use Rattle.lent_lists.proofs.Answer.{written_more, written_none}
 use Rattle.wrapping.proofs.Unfound.{listed_as, nothing-listed}
 use Rattle.wrapping.proofs.Turning.{Steady, bounded_turns}
 use Rattle.wrapping.proofs.Lapsed.{dropped_timely, at_stays, at_goes}
@@ -139,7 +139,8 @@ module _ (n now : ℕ) (w : now < word) where
   unfolding not_found_one
   one_keyed m i t e = rw (not-true (is_type msg_anc_pkg_info i.kind) e) refl
 
-  pub comes_each : {m : Limits} {Q : ℕ} {t : Table} (l : List Item) → Each (λ (i : Item). i.hash < top) l → all_keyed l ≡ true → Waits m Q t → Comes m Q (lapse_each n now l t) (not_found_each m n now l (dropped_all 0 t))
+  pub comes_each : {m : Limits} {Q : ℕ} {t : Table} (l : List Item) → Each (λ (i : Item). i.hash < top) l → all_keyed l ≡ true → Waits m Q t
+      → Comes m Q (lapse_each n now l t) (not_found_each m n now l (dropped_all 0 t))
   unfolding in_turn not_found_each all_keyed
   comes_each [] h e v = record { keys = refl; left = refl; waits = v }
   comes_each {m} {Q} {t} (i ∷ l) h e v =
@@ -157,7 +158,8 @@ module _ (n now : ℕ) (w : now < word) where
 pub lapsing_room : (s₀ : List ℕ) (l : List Item) (u₀ : List ℕ) → key_bytes * length l ≤ length u₀ → Tells s₀ (λ t. key_bytes * (length l + 0) ≤ length u₀)
 lapsing_room s₀ l u₀ h st g w = omega arith
 
-pub lapsed_kept : {b b₁ u u' : List ℕ} {c : ℕ} (n now : ℕ) (l : List Item) → now < word → Each (λ (i : Item). i.hash < top) l → Kept b → KeysListed b b₁ u u' c (λ m t. lapse_each n now l t) → Kept b₁
+pub lapsed_kept : {b b₁ u u' : List ℕ} {c : ℕ} (n now : ℕ) (l : List Item) → now < word → Each (λ (i : Item). i.hash < top) l → Kept b
+    → KeysListed b b₁ u u' c (λ m t. lapse_each n now l t) → Kept b₁
 lapsed_kept n now l w h k v =
     let st = k.state in
     record {
