@@ -13,4 +13,5 @@ returns-then-is_some c = λ st s w. met_first st s w c.requires.1 c.args.n c.fin
 
 pub returns-else-is_some : goal.returns-else-is_some
 returns-else-is_some c = λ st s w.
-    met_second st s w c.requires.1 c.args.n c.find_row.result c.find_row.ensures c.is_some.ensures c.if-is_some.false c.find_row-else-is_some.result c.find_row-else-is_some.ensures c.is_some-else-is_some.ensures
+    met_second st s w c.requires.1 c.args.n c.find_row.result c.find_row.ensures c.is_some.ensures c.if-is_some.false
+    c.find_row-else-is_some.result c.find_row-else-is_some.ensures c.is_some-else-is_some.ensures
