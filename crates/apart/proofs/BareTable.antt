@@ -1,21 +1,23 @@
--- A table without packages: what stands at a key, its keys, counts and rows are those of the table; it holds no place, and is sound.
+-- A table without packages: what stands at a key, its keys, counts, victims and rows are those of the table; it holds no place, and is sound.
 use Prim.Native.Nat.{ℕ, suc}
-use mathlib.Core.Path.{◌≡◌, refl, ap}
+use mathlib.Core.Path.{◌≡◌, refl, ap, ◌∙◌}
 use mathlib.Core.Logic.{inl, inr}
 use mathlib.Core.Bool.{Bool}
-use mathlib.Core.List.{List, [], ◌∷◌}
+use mathlib.Core.List.{List, [], ◌∷◌, ◌++◌}
 use native.Mathlib.Omega.{arith}
 use lib.Dec.{eqb}
 use Rattle.ident.specs.Number.{Key, place}
 use Rattle.regions.specs.Regions.{each}
 use Rattle.machine.specs.Limits.{Limits}
-use Rattle.machine.specs.State.{Request, Table, State}
+use Rattle.machine.specs.State.{Entry, Request, Table, State}
 use Rattle.machine.specs.Table.{at, keys, total, count, owners, places_held, any, by, under, by_under}
+use Rattle.machine.specs.Announce.{victims_in, victims, anywhere}
 use Rattle.machine.specs.Sound.{Ordered, All, Filled, Lawful, Bounded, Sound}
 use Rattle.machine.proofs.Fail.{parents_none}
 use Rattle.machine.proofs.Tests.{test}
 use Rattle.store.specs.Flat.{rows_for, rows_of, places_for, places_of}
 use Rattle.store.proofs.RowBack.{rows_like}
+use Rattle.parenting.proofs.Spent.{in_same}
 use Rattle.apart.specs.Bare.{bare_request, bare, bare_state}
 
 -- ---- keys and counts
@@ -41,6 +43,14 @@ count-bare q t = total-bare _ t (λ r. refl)
 
 pub owners-bare : (q : Key → ℕ → Bool) (t : Table) → owners q (bare t) ≡ owners q t
 owners-bare q t = total-bare _ t (λ r. refl)
+
+-- ---- victims
+
+pub victims-bare : (t : Table) → victims anywhere (bare t) ≡ victims anywhere t
+unfolding bare victims
+victims-bare [] = refl
+victims-bare (r ∷ t) =
+    ap (λ (l : List Entry). l ++ victims anywhere (bare t)) (in_same (bare_request r) r refl refl r.candidates) ∙ ap (λ (l : List Entry). victims_in r r.candidates ++ l) (victims-bare t)
 
 -- ---- places, rows
 

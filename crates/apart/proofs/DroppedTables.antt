@@ -7,16 +7,18 @@ use mathlib.Core.List.{List, [], ◌∷◌, ◌++◌, map}
 use mathlib.Core.Option.{Option, none, some}
 use native.Mathlib.Omega.{arith}
 use lib.Dec.{leb, eqb}
+use lib.ListN.{length}
 use borrow.Author.Tests.{eqb-true, eqb-false, eq-eqb, ne_eqb}
 use Rattle.std.specs.Prelude.{if◌then◌else◌}
 use Rattle.regions.specs.declared.Row.{Row}
 use Rattle.regions.specs.Regions.{each}
 use Rattle.regions.specs.Rows.{quad_of}
+use Rattle.places.specs.Places.{Place}
 use Rattle.regions.proofs.Regions.{each_append}
 use Rattle.machine.specs.State.{Candidate, Owner, Request, Table, State, on_table, with_candidates, unowned, owner_is}
 use Rattle.machine.specs.Table.{keep, has, count_in}
 use Rattle.machine.specs.Announce.{without}
-use Rattle.machine.specs.Sound.{All, Sound}
+use Rattle.machine.specs.Sound.{All, Filled, Sound}
 use Rattle.machine.proofs.Tests.{test, never, and_left}
 use Rattle.store.specs.Flat.{own_bit, bits_of, witness_bit, deadline_for, row_of, rows_for, rows_of, places_for, places_of, tally}
 use Rattle.store.specs.FlatSound.{owns}
@@ -28,7 +30,7 @@ use Rattle.requests.proofs.Keeping.{writes_by}
 use Rattle.announcing.specs.Drops.{kept_row}
 use Rattle.announcing.proofs.DroppingRows.{row_goes, row_stays}
 use Rattle.apart.specs.Silent.{owner_num}
-use Rattle.apart.specs.Silent.{late, gone, dropped_in, dropped_all, Placeless, is_due}
+use Rattle.apart.specs.Silent.{late, gone, dropped_in, dropped_all, Unburdened, is_due}
 
 -- a row that goes owns its request
 pub due-owns : (now : ℕ) (r : Row) {y : Bool} → y ≡ is_due now r → y ≡ true → 1 ≡ own_bit r
@@ -136,32 +138,32 @@ module _ (now : ℕ) where
       first : each (kept_row (is_due now)) (rows_of (q ∷ t)) ≡ each (kept_row (is_due now)) (rows_for q ++ rows_of t)
       first = ap (each (kept_row (is_due now))) (unfold each in refl)
 
-  -- ---- no places
-
-  none_held : (t : Table) → Placeless t → places_of t ≡ []
-  unfolding each
-  none_held [] p = refl
-  none_held (r ∷ t) p = rw (p.0, none_held t p.1)
+  -- ---- places stay
 
   bare : (r : Request) (cs : List Candidate) → places_for (with_candidates cs (unowned r)) ≡ []
   unfolding places_for
   bare r cs = refl
 
-  still_none : (r : Request) → places_for r ≡ [] → places_for (dropped_in now r) ≡ []
-  still_none r e = elim (test (late now r.owner)) [ inl l ↦ rw l (bare r _) | inr l ↦ rw l e ]
+  keep_places : (r : Request) (cs : List Candidate) (t : Table) → (cs ≡ [] → places_for r ≡ []) → places_of (keep r cs t) ≡ places_for r ++ places_of t
+  unfolding keep each
+  keep_places r [] t h = ap (λ (x : List Place). x ++ places_of t) (sym (h refl))
+  keep_places r (c ∷ cs) t h = refl
 
-  placeless_keep : (q : Request) (cs : List Candidate) (u : Table) → places_for q ≡ [] → Placeless u → Placeless (keep q cs u)
-  unfolding keep
-  placeless_keep q [] u e a = a
-  placeless_keep q (c ∷ cs) u e a = (e, a)
+  some_candidate : (cs : List Candidate) → 1 ≤ length cs → cs ≡ [] → ⊥
+  some_candidate cs h e = omega (arith, ap length e)
 
-  placeless_dropped : (t : Table) → Placeless t → Placeless (dropped_all now t)
-  unfolding dropped_all
-  placeless_dropped [] p = tt
-  placeless_dropped (r ∷ t) p = placeless_keep (dropped_in now r) (dropped_in now r).candidates (dropped_all now t) (still_none r p.0) (placeless_dropped t p.1)
+  places_stay : (t : Table) → All Filled t → Unburdened now t → places_of (dropped_all now t) ≡ places_of t
+  unfolding dropped_all each
+  places_stay [] f a = refl
+  places_stay (r ∷ t) f a =
+      elim (test (late now r.owner)) [
+        | inl e ↦ rw e (keep_places _ _ (dropped_all now t) (λ z. bare r _) ∙ ap (λ (x : List Place). x ++ places_of (dropped_all now t)) (bare r _ ∙ sym (a.0 e))
+            ∙ ap (λ (x : List Place). places_for r ++ x) (places_stay t f.1 a.1))
+        | inr e ↦ rw e (keep_places r r.candidates (dropped_all now t) (λ z. absurd (some_candidate r.candidates f.0 z)) ∙ ap (λ (x : List Place). places_for r ++ x) (places_stay t f.1 a.1))
+      ]
 
-  pub dropped-writes : {b : List ℕ} (st : State) → Sound st → Placeless st.table → Shorn b st (each (kept_row (is_due now)) (rows_of st.table)) (each (kept_row (is_due now)) (rows_of st.table))
+  pub dropped-writes : {b : List ℕ} (st : State) → Sound st → Unburdened now st.table → Shorn b st (each (kept_row (is_due now)) (rows_of st.table)) (each (kept_row (is_due now)) (rows_of st.table))
       → Writes b (on_table (dropped_all now st.table) st)
   dropped-writes st s p h =
       let e = rows_left_lem st.table (distinct_in st.table s.bounded.once) in
-      writes_by st (dropped_all now st.table) e (ap tally e) (none_held (dropped_all now st.table) (placeless_dropped st.table p) ∙ sym (none_held st.table p)) h
+      writes_by st (dropped_all now st.table) e (ap tally e) (places_stay st.table s.bounded.filled p) h

@@ -18,7 +18,7 @@ use Rattle.machine.specs.Limits.{Limits, word}
 use Rattle.machine.specs.State.{Candidate, Owner, Request, Table, with_candidates, unowned, ready_at, owner_is}
 use Rattle.machine.specs.Table.{at, keep, change, has, count_in}
 use Rattle.machine.specs.Announce.{without}
-use Rattle.machine.specs.Fail.{Listed, left, failed, dedup, parents_from, announce_parents, parents_for}
+use Rattle.machine.specs.Fail.{Listed, releasable, left, failed, dedup, parents_from, announce_parents, parents_for}
 use Rattle.machine.specs.Plan.{Due, due_of, due, expire}
 use Rattle.machine.specs.Sound.{Ordered, All, Filled, OwnerFits, Bounded}
 use Rattle.machine.specs.Typed.{Each}
@@ -48,7 +48,7 @@ gone-ready n now r = ap (λ (cs : List Candidate). with_candidates cs (unowned r
 ready_none : (now : ℕ) → GivesNone (readied now)
 ready_none now r e = ap (map (ready_at now)) e
 
-gone_none : (n : ℕ) → GivesNone (gone n)
+pub gone_none : (n : ℕ) → GivesNone (gone n)
 unfolding without
 gone_none n r e = ap (without n) e
 
@@ -62,7 +62,7 @@ module _ (n now : ℕ) (k : Key) (sk : k.hash < top) where
     | inr e ↦ change-swap k j (gone n) (readied now) t sk sj (eqb-false (place k) (place j) e) (λ r. refl) (λ r. refl) o a
   ]
 
-  both_swap : (j : Key) (t : Table) → j.hash < top → Ordered 0 t → All Filled t → change k (gone n) (readied_both now j t) ≡ readied_both now j (change k (gone n) t)
+  pub both_swap : (j : Key) (t : Table) → j.hash < top → Ordered 0 t → All Filled t → change k (gone n) (readied_both now j t) ≡ readied_both now j (change k (gone n) t)
   both_swap j t sj o a =
       gone-swap (other j) (change j (readied now) t) sj (ordered-change j (readied now) 0 t (λ r. refl) (omega arith) sj o) (filled-change j (readied now) t a)
       ∙ ap (change (other j) (readied now)) (gone-swap j t sj o a)
@@ -85,7 +85,7 @@ each_swap n now k (d ∷ ds) t s a o f =
 
 -- ---- one fails
 
-owner-has : (n : ℕ) (w : Option Owner) (cs : List Candidate) → owner_is n w ≡ true → OwnerFits w cs → has n cs ≡ true
+pub owner-has : (n : ℕ) (w : Option Owner) (cs : List Candidate) → owner_is n w ≡ true → OwnerFits w cs → has n cs ≡ true
 owner-has n none cs e f = never e
 owner-has n (some o) cs e f = ap (λ (m : ℕ). has m cs) (sym (eqb-true o.connection n e)) ∙ f.0
 
@@ -120,9 +120,9 @@ module _ {m : Limits} {Q : ℕ} {t : Table} (now : ℕ) (k : Key) (n : ℕ) (s :
   unfolding left
   left_there = rw (other_free, without-none n (at (other k) t).candidates other_has)
 
-  pub failed_is : (at k t).«package» ≡ none → (failed k n now t).table ≡ change k (gone n) (readied_both now k t)
+  pub failed_is : releasable n (at k t) ≡ true → (failed k n now t).table ≡ change k (gone n) (readied_both now k t)
   unfolding failed
-  failed_is p =
+  failed_is r =
       let t₁ = change k (left n now) t in
       let o₁ = ordered-change k (left n now) 0 t (left_key n now) (omega arith) s b.ordered in
       let first : t₁ ≡ change k (gone n) (change k (readied now) t) =
@@ -130,7 +130,7 @@ module _ {m : Limits} {Q : ℕ} {t : Table} (now : ℕ) (k : Key) (n : ℕ) (s :
       let there : at (other k) t₁ ≡ at (other k) t = at_other (other k) k (left n now) t (left_key n now) (other_place k s) in
       let second : change (other k) (left n now) t₁ ≡ change (other k) (readied now) t₁ =
       change_same (other k) (left n now) (readied now) 0 t₁ o₁ (ap (left n now) there ∙ left_there ∙ ap (readied now) (sym there)) in
-      rw (own, p) (second ∙ ap (change (other k) (readied now)) first
+      rw r (second ∙ ap (change (other k) (readied now)) first
       ∙ sym (gone-swap n now k s (other k) (change k (readied now) t) s (ordered-change k (readied now) 0 t (λ r. refl) (omega arith) s b.ordered) (filled-change k (readied now) t b.filled)))
 
 -- ---- all of them
@@ -188,7 +188,7 @@ fail-each now lo (d ∷ ds) t w b p r a o =
     let u = readied_both now k t in
     fail-each now (suc (place k)) ds (failed k n now t).table w (bounded-failed k n now a.0 w b) (still_packless now w k n a.0 b o.0 p) r.1 a.1
     (still_owned now w k n a.0 b o.0 p (suc (place k)) ds (omega arith) r.1 a.1 o.1)
-    ∙ ap (λ (x : Table). gone_each ds (ready_each now ds x)) (failed_is now k n a.0 b o.0 (p k a.0).nothing)
+    ∙ ap (λ (x : Table). gone_each ds (ready_each now ds x)) (failed_is now k n a.0 b o.0 (rw (o.0, (p k a.0).nothing) refl))
     ∙ ap (gone_each ds) (each_swap n now k ds u a.0 a.1 (ordered_both now k t a.0 b.ordered) (filled_both now k t b.filled))
 
 -- none of them has parents to announce

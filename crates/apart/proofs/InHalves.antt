@@ -7,6 +7,7 @@ use native.Mathlib.Nat.{mul-add, mul_assoc}
 use native.Mathlib.Numerals.{add-one}
 use native.Mathlib.Omega.{arith}
 use lib.ListN.{length}
+use Rattle.ident.specs.Words.{hash_num}
 use Rattle.machine.specs.State.{Table, State, limits_of, on_table}
 use Rattle.machine.specs.Table.{one}
 use Rattle.machine.specs.Fail.{parents_from}
@@ -14,43 +15,48 @@ use Rattle.machine.specs.Sound.{Sound}
 use Rattle.store.specs.Image.{Writes}
 use Rattle.store.specs.Shown.{Kept}
 use Rattle.announcing.specs.Answers.{one_parent}
-use Rattle.announcing.specs.Falls.{list_space}
 use Rattle.gathering.specs.Aside.{Empty}
-use Rattle.apart.specs.Noting.{parent_in, hashes_at, kept_bits, Halved, picked_in, Spent, Exhausted, Noted}
-use Rattle.apart.specs.Waiting.{Waits, LetIn}
-use Rattle.apart.specs.Displacing.{Half, Further, Reserve, unlisted, Supplied, Supplies, FurtherIn, HalfAt, HalfIn}
-use Rattle.apart.proofs.Alongside.{beside_none, none_writes}
-use Rattle.apart.proofs.ForVictims.{supplied-unlisted, supplied-spent}
+use Rattle.parenting.specs.declared.parent.Parent.{Parent}
+use Rattle.parenting.specs.Displacing.{Spent, Exhausted, Reserve, Further, unlisted, Supplied, Supplies, Finished, FurtherIn}
+use Rattle.parenting.proofs.Starting.{supplied_none}
+use Rattle.apart.specs.Noting.{parent_in, hashes_at, ParentAt, kept_bits, Halved, picked_in, Half, HalfAt, HalfIn, Noted}
 use Rattle.apart.proofs.Notes.{kept_picked, parts-keys, parts-table, hashes_next, hashes_none, hashes-long, whole, in-front, behind}
 
 -- ---- the loop
+
+-- the same of numbers that are equal
+further_as : {n n' now now' h h' i i' : ℕ} {b b' w w' a a' : List ℕ} {d : ℕ} {q : Reserve} {f : Further} → n ≡ n' → now ≡ now' → h ≡ h' → i ≡ i'
+    → FurtherIn n now h i b b' w w' a a' d q f → FurtherIn n' now' h' i' b b' w w' a a' d q f
+further_as en et eh ei x = rw (en, et, eh, ei) at x
 
 module _ (z : List ℕ) (n now : ℕ) (from to : ℕ) where
   -- what is left to announce from the j-th on, d waiting before it, q known of the victims in the words a, the bits r so far, of which the next has the weight v
   pub record OnTheWay (b w a : List ℕ) (q : Reserve) (st : State) (t₀ : Table) (j d r v : ℕ) : Type 0 where
     pub now-table : Table
-    pub supplied : Supplied z n now b w a (j - d) d st now-table q
+    pub supplied : Supplied n b w a d st now-table q
     pub bits : r + v * kept_bits (limits_of st) n now j (hashes_at z j (to - j)) now-table ≡ kept_bits (limits_of st) n now from (hashes_at z from (to - from)) t₀
     pub rest : (parents_from (limits_of st) n now j (hashes_at z j (to - j)) now-table).table ≡ (parents_from (limits_of st) n now from (hashes_at z from (to - from)) t₀).table
 
   abbrev pub Way : List ℕ → List ℕ → List ℕ → ℕ → Reserve → List ℕ → List ℕ → List ℕ → ℕ → Reserve → ℕ → ℕ → ℕ → Type 0
-  Way b₀ w₀ a₀ d₀ q₀ b w a d q j r v = (st : State) (t : Table) → Supplied z n now b₀ w₀ a₀ (from - d₀) d₀ st t q₀ → OnTheWay b w a q st t j d r v
+  Way b₀ w₀ a₀ d₀ q₀ b w a d q j r v = (st : State) (t : Table) → Supplied n b₀ w₀ a₀ d₀ st t q₀ → OnTheWay b w a q st t j d r v
 
   pub way-starts : (b w a : List ℕ) (d : ℕ) (q : Reserve) → Way b w a d q b w a d q from 0 1
   way-starts b w a d q st t x = record { now-table = t; supplied = x; bits = omega arith; rest = refl }
 
   module _ {b₀ w₀ a₀ b w a : List ℕ} {d₀ d : ℕ} {q₀ q : Reserve} {j r v : ℕ} (x : Way b₀ w₀ a₀ d₀ q₀ b w a d q j r v) where
-    pub way_supplies : Supplies z n now b₀ w₀ a₀ (from - d₀) d₀ q₀ → Supplies z n now b w a (j - d) d q
-    way_supplies k = let g = x k.state k.with_them k.supplied in record { state = k.state; with_them = g.now-table; supplied = g.supplied }
+    pub way_supplies : {p : Parent} → ParentAt z n now j p → Supplies n b₀ w₀ a₀ d₀ q₀ → Supplies p.connection.number b w a d q
+    way_supplies p k =
+        let g = x k.state k.with_them k.supplied in
+        subst (λ (m : ℕ). Supplies m b w a d q) (sym p.connection) (record { state = k.state; with_them = g.now-table; supplied = g.supplied })
 
-    pub way_goes : {b' w' a' : List ℕ} {f : Further} {r' : ℕ} → j < to → FurtherIn z n now b b' w w' a a' j d q f → r' ≡ r + v * one f.kept
-        → Way b₀ w₀ a₀ d₀ q₀ b' w' a' f.waiting f.reserve (j + 1) r' (v * 2)
+    pub way_goes : {b' w' a' : List ℕ} {f : Further} {r' : ℕ} {p : Parent} → j < to → ParentAt z n now j p
+        → FurtherIn p.connection.number p.clock (hash_num p.hash) p.priority b b' w w' a a' d q f → r' ≡ r + v * one f.kept → Way b₀ w₀ a₀ d₀ q₀ b' w' a' f.waiting f.reserve (j + 1) r' (v * 2)
     unfolding kept_bits parents_from
-    way_goes {b'} {w'} {a'} {f} {r'} l y e st t k =
+    way_goes {b'} {w'} {a'} {f} {r'} l p y e st t k =
         let g = x st t k in
         let u = g.now-table in
         let m = limits_of st in
-        let o = y.next st u g.supplied in
+        let o = further_as p.connection p.clock p.hash p.priority y st u g.supplied in
         let hs = hashes_at z (j + 1) (to - (j + 1)) in
         let next : hashes_at z j (to - j) ≡ parent_in z j ∷ hs = hashes_next z j (to - j) (omega arith) ∙
         ap (λ (c : ℕ). parent_in z j ∷ hashes_at z (j + 1) c) (let i : to - j - 1 ≡ to - (j + 1) = omega arith in i) in
@@ -70,45 +76,32 @@ module _ (z : List ℕ) (n now : ℕ) (from to : ℕ) where
         regroup : (r w z y : ℕ) → r + w * z + w * 2 * y ≡ r + w * (z + 2 * y)
         regroup r w z y = rw (mul-add w z (2 * y), mul_assoc w 2 y) (let u = w * z in let v = w * (2 * y) in omega arith)
 
-    pub way-ends : j ≡ to → d ≤ to → q.count ≤ list_space → HalfIn z n now b₀ b w₀ w a₀ a from to d₀ q₀ (record { bits = r; waiting = d; reserve = q })
+    pub way-ends : j ≡ to → HalfIn n now b₀ b w₀ w a₀ a from (hashes_at z from (to - from)) d₀ q₀ (record { bits = r; waiting = d; reserve = q })
     unfolding kept_bits parents_from
-    way-ends e l few = record {
-      most = l;
-      few = few;
-      half = λ st t k.
-          let g = x st t k in
-          let none : hashes_at z j (to - j) ≡ [] = hashes_none z j (to - j) (omega arith) in
-          let u : g.now-table ≡ (parents_from (limits_of st) n now from (hashes_at z from (to - from)) t).table =
-          sym (ap (λ (l : List ℕ). (parents_from (limits_of st) n now j l g.now-table).table) none) ∙ g.rest in
-          let o = ap (λ (l : List ℕ). r + v * kept_bits (limits_of st) n now j l g.now-table) none in
-          record {
-            bits = omega (arith, o, g.bits);
-            supplied = subst (λ (y : Table). Supplied z n now b w a (to - d) d st y q) u (subst (λ (i : ℕ). Supplied z n now b w a (i - d) d st g.now-table q) e g.supplied);
-          };
-    }
+    way-ends e st t k =
+        let g = x st t k in
+        let none : hashes_at z j (to - j) ≡ [] = hashes_none z j (to - j) (omega arith) in
+        let u : g.now-table ≡ (parents_from (limits_of st) n now from (hashes_at z from (to - from)) t).table =
+        sym (ap (λ (l : List ℕ). (parents_from (limits_of st) n now j l g.now-table).table) none) ∙ g.rest in
+        let o = ap (λ (l : List ℕ). r + v * kept_bits (limits_of st) n now j l g.now-table) none in
+        record { bits = omega (arith, o, g.bits); supplied = subst (λ (y : Table). Supplied n b w a d st y q) u g.supplied }
 
 -- ---- both halves
 
 -- nobody waits, and no victim is listed
-first_supplied : {z b w a : List ℕ} {n now : ℕ} {st : State} → Empty w → Sound st → Writes b st → (x : Bool) → (x ≡ true → Spent st.table)
-    → Supplied z n now b w a 0 0 st st.table (unlisted x)
-first_supplied {a = a} e s o x k = supplied-unlisted a (beside_none s o e) x k
+first_supplied : {b w a : List ℕ} {n : ℕ} {st : State} {q : Reserve} {x : Bool} → Empty w → Exhausted b x → q ≡ unlisted x → Sound st → Writes b st → Supplied n b w a 0 st st.table q
+first_supplied {b} {w} {a} {n} {st} {x = x} e g i s o = subst (Supplied n b w a 0 st st.table) (sym i) (supplied_none a s o e x (λ y. g y st s o))
 
-pub none_waits : {z b w a : List ℕ} {n now : ℕ} {q : Reserve} {x : Bool} → Kept b → Empty w → Exhausted b x → q ≡ unlisted x → Supplies z n now b w a 0 0 q
-none_waits {z} {b} {w} {a} {n} {now} {x = x} k e g i =
-    subst (Supplies z n now b w a 0 0) (sym i)
-    (record { state = k.state; with_them = k.state.table; supplied = first_supplied e k.sound k.writes x (λ y. g y k.state k.sound k.writes) })
+pub none_waits : {b w a : List ℕ} {n : ℕ} {q : Reserve} {x : Bool} → Kept b → Empty w → Exhausted b x → q ≡ unlisted x → Supplies n b w a 0 q
+none_waits k e g i = record { state = k.state; with_them = k.state.table; supplied = first_supplied e g i k.sound k.writes }
 
-pub half_supplies : {z b b₁ w w₁ a a₁ : List ℕ} {n now from to d : ℕ} {q : Reserve} {r : Half} → HalfIn z n now b b₁ w w₁ a a₁ from to d q r → Supplies z n now b w a (from - d) d q
-    → Supplies z n now b₁ w₁ a₁ (to - r.waiting) r.waiting r.reserve
-half_supplies x k = record { state = k.state; with_them = _; supplied = (x.half k.state k.with_them k.supplied).supplied }
+pub half_supplies : {b b₁ w w₁ a a₁ hs : List ℕ} {n now i d : ℕ} {q : Reserve} {r : Half} → HalfIn n now b b₁ w w₁ a a₁ i hs d q r → Supplies n b w a d q
+    → Supplies n b₁ w₁ a₁ r.waiting r.reserve
+half_supplies x k = record { state = k.state; with_them = _; supplied = (x k.state k.with_them k.supplied).supplied }
 
-pub supplies_waits : {z b w a : List ℕ} {n now i d : ℕ} {q : Reserve} → Supplies z n now b w a i d q → Waits z n now b w i d
-supplies_waits k = record { state = k.state; with_them = k.with_them; beside = k.supplied.beside }
-
-module _ {b b₁ b₂ b₃ w₀ w₁ w₂ w₃ a₀ a₁ a₂ : List ℕ} {n now c e : ℕ} {q : Reserve} {spent : Bool} {x y : Half} (z : List ℕ) (empty : Empty w₀) (given : Exhausted b spent) (known : q ≡ unlisted spent)
-    (h : Halved c e)
-    (first : HalfIn z n now b b₁ w₀ w₁ a₀ a₁ 0 e 0 q x) (second : HalfIn z n now b₁ b₂ w₁ w₂ a₁ a₂ e c x.waiting x.reserve y) (came : LetIn z n now b₂ b₃ w₂ w₃ c y.waiting) where
+module _ {b b₁ b₂ b₃ w₀ w₁ w₂ a₀ a₁ a₂ : List ℕ} {n now c e : ℕ} {q : Reserve} {spent last : Bool} {x y : Half} (z : List ℕ) (empty : Empty w₀) (given : Exhausted b spent) (known : q ≡ unlisted spent)
+    (h : Halved c e) (first : HalfIn n now b b₁ w₀ w₁ a₀ a₁ 0 (hashes_at z 0 (e - 0)) 0 q x)
+    (second : HalfIn n now b₁ b₂ w₁ w₂ a₁ a₂ e (hashes_at z e (c - e)) x.waiting x.reserve y) (finished : Finished n b₂ b₃ w₂ a₂ y.waiting y.reserve) (same : last ≡ y.reserve.spent) where
   abbrev hs : List ℕ
   hs = hashes_at z 0 c
 
@@ -125,26 +118,18 @@ module _ {b b₁ b₂ b₃ w₀ w₁ w₂ w₃ a₀ a₁ a₂ : List ℕ} {n now
     abbrev t₁ : Table
     t₁ = (parents_from (limits_of st) n now 0 xs st.table).table
 
-    half₁ : HalfAt z n now b₁ w₁ a₁ 0 e st st.table x
-    half₁ = first.half st st.table (subst (λ (i : Reserve). Supplied z n now b w₀ a₀ 0 0 st st.table i) (sym known) (first_supplied empty s o spent (λ i. given i st s o)))
+    half₁ : HalfAt n now b₁ w₁ a₁ 0 xs st st.table x
+    half₁ =
+        let i : e - 0 ≡ e = omega arith in
+        subst (λ (l : List ℕ). HalfAt n now b₁ w₁ a₁ 0 l st st.table x) (ap (hashes_at z 0) i) (first st st.table (first_supplied empty given known s o))
 
-    all : hashes_at z 0 (e - 0) ≡ xs
-    all = let q : e - 0 ≡ e = omega arith in ap (hashes_at z 0) q
-
-    bits₁ : x.bits ≡ kept_bits (limits_of st) n now 0 xs st.table
-    bits₁ = half₁.bits ∙ ap (λ (l : List ℕ). kept_bits (limits_of st) n now 0 l st.table) all
-
-    supplied₁ : Supplied z n now b₁ w₁ a₁ (e - x.waiting) x.waiting st t₁ x.reserve
-    supplied₁ =
-        subst (λ (l : List ℕ). Supplied z n now b₁ w₁ a₁ (e - x.waiting) x.waiting st (parents_from (limits_of st) n now 0 l st.table).table x.reserve) all half₁.supplied
-
-    half₂ : HalfAt z n now b₂ w₂ a₂ e c st t₁ y
-    half₂ = second.half st t₁ supplied₁
+    half₂ : HalfAt n now b₂ w₂ a₂ e ys st t₁ y
+    half₂ = second st t₁ half₁.supplied
 
     keys-are : picked_in hs x.bits y.bits ≡ (parents_from (limits_of st) n now 0 hs st.table).keys
     keys-are =
         let m = limits_of st in
-        rw (in-front z h, behind z h, bits₁, half₂.bits, kept_picked m n now 0 xs st.table, kept_picked m n now e ys t₁)
+        rw (in-front z h, behind z h, half₁.bits, half₂.bits, kept_picked m n now 0 xs st.table, kept_picked m n now e ys t₁)
         (sym (ap (λ (l : List ℕ). (parents_from m n now 0 l st.table).keys) (whole z h) ∙ parts-keys m n now 0 xs ys st.table ∙ rw later))
 
     table_is : (parents_from (limits_of st) n now 0 hs st.table).table ≡ (parents_from (limits_of st) n now e ys t₁).table
@@ -153,10 +138,10 @@ module _ {b b₁ b₂ b₃ w₀ w₁ w₂ w₃ a₀ a₁ a₂ : List ℕ} {n now
         ap (λ (l : List ℕ). (parents_from m n now 0 l st.table).table) (whole z h) ∙ parts-table m n now 0 xs ys st.table ∙ ap (λ (i : ℕ). (parents_from m n now i ys t₁).table) later
 
     written : Writes b₃ (on_table (parents_from (limits_of st) n now 0 hs st.table).table st)
-    written = subst (λ (t : Table). Writes b₃ (on_table t st)) (sym table_is) (none_writes (came st _ half₂.supplied.beside))
+    written = subst (λ (t : Table). Writes b₃ (on_table t st)) (sym table_is) (finished st _ half₂.supplied).1
 
-    none_left : y.reserve.spent ≡ true → Spent (parents_from (limits_of st) n now 0 hs st.table).table
-    none_left i = subst Spent (sym table_is) (supplied-spent half₂.supplied i)
+    none_left : last ≡ true → Spent (parents_from (limits_of st) n now 0 hs st.table).table
+    none_left i = subst Spent (sym table_is) (half₂.supplied.none_left (sym same ∙ i))
 
-  pub both_noted : Noted b b₃ n now hs (record { note = record { low = x.bits; high = y.bits }; spent = y.reserve.spent })
+  pub both_noted : Noted b b₃ n now hs (record { note = record { low = x.bits; high = y.bits }; spent = last })
   both_noted = record { keys = keys-are; table = written; none_left = none_left }

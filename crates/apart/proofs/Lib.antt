@@ -8,13 +8,7 @@ pub mod SlotWords
 pub mod Slotted
 pub mod Spotting
 pub mod Parting
-pub mod Marking
 pub mod Notes
-pub mod Alongside
-pub mod Spent
-pub mod SpentStill
-pub mod ForVictims
-pub mod NextParent
 pub mod InHalves
 pub mod Overdue
 pub mod OneOwner

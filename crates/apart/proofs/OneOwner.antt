@@ -41,15 +41,16 @@ use Rattle.apart.specs.declared.slots.Spot.{Spot}
 use Rattle.apart.specs.Bare.{bare_state}
 use Rattle.apart.specs.declared.lapsing.Progress.{Progress}
 use Rattle.apart.specs.Apart.{Slot, with_notes, dying, plain, Room, Altered, Clear, ClearFrom, SpotHeld, SpotNone, SpotIn, Apart, Parted}
-use Rattle.apart.specs.Noting.{picked, half_most, picked_in, Spent, Exhausted}
+use Rattle.parenting.specs.Displacing.{Spent, Exhausted}
+use Rattle.parenting.proofs.SpentStill.{spent-failed}
+use Rattle.apart.specs.Noting.{picked, half_most, picked_in}
 use Rattle.apart.specs.Lapsing.{noted, ClearAt, nowhere, lapsed, LapsedTo, expire_at, PlaceExpired, ExpiredTo}
 use Rattle.apart.proofs.SlotWords.{plain-long}
-use Rattle.apart.proofs.BareTable.{sound-bare}
+use Rattle.apart.proofs.BareTable.{victims-bare, sound-bare}
 use Rattle.apart.proofs.BareChange.{failed-bare}
 use Rattle.apart.proofs.BarePlaces.{no_place, txid-free}
 use Rattle.apart.proofs.BareExpiry.{no-parents, bounded-after, places_unheld}
 use Rattle.apart.proofs.Overdue.{front_is, rest_stays, slots_rest, none_packaged, filter_from}
-use Rattle.apart.proofs.SpentStill.{victims-bare, spent-failed}
 
 -- ---- what the functions ask for
 

@@ -41,14 +41,13 @@ use Rattle.apart.specs.Bare.{bare, bare_state, bare_listed, other_than}
 use Rattle.apart.specs.Apart.{Slot, slot_words, dying, plain, Slots, SlotOf, Altered, SpotHeld, Apart}
 use Rattle.apart.specs.Noting.{hashes_at, picked_in, Noted}
 use Rattle.apart.specs.Lapsing.{nowhere, lapsed, LapsedTo, expire_at, PlaceExpired}
-use Rattle.apart.proofs.BareTable.{sound-bare}
+use Rattle.apart.proofs.BareTable.{victims-bare, sound-bare}
 use Rattle.apart.proofs.BareChange.{failed-bare, enqueued_stays}
 use Rattle.apart.proofs.BareAnnounce.{parents_from-bare}
 use Rattle.apart.proofs.BarePlaces.{PlaceOf, place-whose}
 use Rattle.apart.proofs.BareExpiry.{parents-beside, dedup-distinct, bounded-after, places-enqueued, places-without}
 use Rattle.apart.proofs.SlotWords.{plain_at, plain-long, plain-set}
 use Rattle.apart.proofs.Notes.{slot_all}
-use Rattle.apart.proofs.SpentStill.{victims-bare}
 use Rattle.apart.proofs.Spotting.{ascend_above as ascend-least}
 
 -- ---- the front of a store, lent and come back

@@ -92,7 +92,7 @@ ready-place now r i (some p) = refl
 ready-place now r true none = refl
 ready-place now r false none = refl
 
-ready_none : (now : ℕ) (r : Request) → places_for r ≡ [] → places_for (readied now r) ≡ []
+pub ready_none : (now : ℕ) (r : Request) → places_for r ≡ [] → places_for (readied now r) ≡ []
 unfolding places_for
 ready_none now r e = ready-place now r r.info r.«package» ∙ e
 

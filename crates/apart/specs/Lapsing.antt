@@ -13,7 +13,8 @@ use Rattle.apart.specs.declared.noting.Announced.{Announced}
 use Rattle.apart.specs.declared.slots.Spot.{Spot}
 use Rattle.apart.specs.declared.lapsing.Progress.{Progress}
 use Rattle.apart.specs.Apart.{Slot, dying, at_rest, plain, Slots, Clear, ClearFrom, SpotHeld, Apart}
-use Rattle.apart.specs.Noting.{picked_in, Spent}
+use Rattle.parenting.specs.Displacing.{Spent}
+use Rattle.apart.specs.Noting.{picked_in}
 
 -- ---- what is noted of all places
 

@@ -1,17 +1,18 @@
--- Parents of a place announced one by one, and which of them were kept noted as the bits of a number, the first the least.
+-- Parents of a place announced together, and which of them were kept noted as the bits of a number, the first the least.
 use Rattle.std.specs.Prelude.{ℕ, zero, suc, ◌+◌, ◌*◌, ◌/◌, ◌%◌, ◌≤◌, ◌≡◌, Bool, true, List, [], ◌∷◌, ◌++◌, eqb, length, take, drop, if◌then◌else◌}
 use Rattle.ident.specs.Number.{Key, txid}
+use Rattle.ident.specs.Words.{hash_num}
 use Rattle.regions.specs.Rows.{quad_number, read_quad}
 use Rattle.places.specs.Places.{list_most, place_size, parents_at}
 use Rattle.machine.specs.Limits.{Limits}
 use Rattle.machine.specs.State.{Table, State, limits_of, on_table}
 use Rattle.machine.specs.Table.{one}
-use Rattle.machine.specs.Announce.{victims, anywhere}
 use Rattle.machine.specs.Fail.{parents_from}
 use Rattle.machine.specs.Sound.{Sound}
 use Rattle.store.specs.Image.{Writes}
-use Rattle.requests.specs.Changes.{Tells}
 use Rattle.announcing.specs.Answers.{one_parent}
+use Rattle.parenting.specs.declared.parent.Parent.{Parent}
+use Rattle.parenting.specs.Displacing.{Spent, Reserve, Supplied}
 use Rattle.apart.specs.declared.noting.Announced.{Announced}
 use Rattle.apart.specs.Apart.{Slot, SlotOf}
 
@@ -24,6 +25,13 @@ parent_in w j = quad_number (read_quad (drop (place_size * 0 + (parents_at + 4 *
 unfoldable pub hashes_at : List ℕ → ℕ → ℕ → List ℕ
 hashes_at w j zero = []
 hashes_at w j (suc n) = parent_in w j ∷ hashes_at w (suc j) n
+
+-- p is the j-th, announced for the connection n at `now`
+pub record ParentAt (w : List ℕ) (n now j : ℕ) (p : Parent) : Type 0 where
+  pub hash : hash_num p.hash ≡ parent_in w j
+  pub connection : p.connection.number ≡ n
+  pub clock : p.clock ≡ now
+  pub priority : p.priority ≡ j
 
 -- how many a place has
 pub record ParentsIn (z : List ℕ) (r : ℕ) : Type 0 where
@@ -60,13 +68,20 @@ picked_in hs low high = picked (take half_most hs) low ++ picked (drop half_most
 
 -- ---- parts of contracts
 
--- no candidate of the table can be evicted
-abbrev pub Spent : Table → Type 0
-Spent t = victims anywhere t ≡ []
+-- the bits of one half, how many parents wait after it, and what is known of the victims
+pub record Half : Type 0 where
+  pub bits : ℕ
+  pub waiting : ℕ
+  pub reserve : Reserve
 
--- if x says so, no candidate can be evicted in the sound state that the bytes b write
-abbrev pub Exhausted : List ℕ → Bool → Type 0
-Exhausted b x = x ≡ true → Tells b Spent
+-- the parents hs are announced for the connection n at `now`, the first with the priority i, where some wait beside the store and q is known of the victims
+module _ (n now : ℕ) where
+  pub record HalfAt (b' w' v' : List ℕ) (i : ℕ) (hs : List ℕ) (st : State) (t : Table) (r : Half) : Type 0 where
+    pub bits : r.bits ≡ kept_bits (limits_of st) n now i hs t
+    pub supplied : Supplied n b' w' v' r.waiting st (parents_from (limits_of st) n now i hs t).table r.reserve
+
+  abbrev pub HalfIn : List ℕ → List ℕ → List ℕ → List ℕ → List ℕ → List ℕ → ℕ → List ℕ → ℕ → Reserve → Half → Type 0
+  HalfIn b b' w w' v v' i hs d q r = (st : State) (t : Table) → Supplied n b w v d st t q → HalfAt b' w' v' i hs st t r
 
 -- all hashes hs are announced, those kept noted in two halves
 pub record Noted (b b' : List ℕ) (n now : ℕ) (hs : List ℕ) (r : Announced) : Type 0 where

@@ -1,5 +1,5 @@
--- Owners whose time is over, where no request has a package: their rows go in one pass.
-use Rattle.std.specs.Prelude.{ℕ, ◌≡◌, Bool, false, ◌&&◌, List, [], ◌∷◌, leb, if◌then◌else◌}
+-- Owners whose time is over, where none of them has a place: their rows go in one pass.
+use Rattle.std.specs.Prelude.{ℕ, ◌≡◌, Bool, true, false, ◌&&◌, List, [], ◌∷◌, leb, if◌then◌else◌}
 use Rattle.std.proofs.Math.Option.{Option, none, some}
 use Rattle.ident.specs.Number.{Key, other}
 use Rattle.regions.specs.declared.Row.{Row}
@@ -54,6 +54,10 @@ silenced now t = dropped_all now (ready_each now (due now t) t)
 -- no request has a place
 abbrev pub Placeless : Table → Type 0
 Placeless t = All (λ r. places_for r ≡ []) t
+
+-- who is late has no place
+abbrev pub Unburdened : ℕ → Table → Type 0
+Unburdened now t = All (λ r. late now r.owner ≡ true → places_for r ≡ []) t
 
 -- ---- rows
 

@@ -4,7 +4,7 @@ ghost use Rattle.std.specs.Prelude.{◌≡◌, ◌+◌, ◌≤◌, ◌<◌, leng
 ghost use Rattle.ident.specs.Words.{key_num};
 ghost use Rattle.apart.specs.Apart.{Room, Parted};
 ghost use Rattle.store.specs.Shown.{Kept};
-ghost use Rattle.apart.specs.Noting.{Exhausted};
+ghost use Rattle.parenting.specs.Displacing.{Exhausted};
 ghost use Rattle.apart.specs.Lapsing.{Lapses, PlaceExpiring, PlaceExpires, Expires};
 
 use crate::parents::Parents;

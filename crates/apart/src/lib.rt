@@ -12,8 +12,6 @@ ghost use Rattle.apart.specs.Apart.{bare_bytes, SetApart, Rested, PutBack};
 use places::PLACE;
 use store::layout;
 
-pub mod displacing;
-pub mod joining;
 pub mod lapsing;
 pub mod noting;
 pub mod parents;

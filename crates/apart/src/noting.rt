@@ -1,18 +1,19 @@
-// Parents of a place announced one by one, and those kept noted: a bit for each in two numbers.
+// Parents of a place announced together, and those kept noted: a bit for each in two numbers.
 ghost use Rattle.std.specs.Prelude.{◌≡◌, ◌+◌, ◌-◌, ◌≤◌, ◌<◌};
 ghost use Rattle.ident.specs.Words.{hash_num};
 ghost use Rattle.words.specs.Words.{words};
 ghost use Rattle.places.specs.Places.{list_most};
 ghost use Rattle.store.specs.Shown.{Kept};
-ghost use Rattle.apart.specs.Noting.{parent_in, hashes_at, ParentsIn, half_most, Halved, Exhausted, Noted};
-ghost use Rattle.apart.specs.Displacing.{reserve_of, Supplies, HalfIn};
+ghost use Rattle.parenting.specs.Displacing.{reserve_of, Exhausted, Supplies};
+ghost use Rattle.apart.specs.Noting.{parent_in, hashes_at, ParentsIn, half_most, Halved, HalfIn, Noted};
 
-use crate::displacing::Known;
+use crate::SLOT;
 use crate::parents::Parents;
 use crate::slots::Note;
-use crate::{SLOT, displacing, joining};
 use gathering::rows::Waiting;
 use machine::limits::MAX_PARENTS;
+use parenting::displacing;
+use parenting::displacing::Known;
 
 // Half of a place's parents.
 const HALF: usize = MAX_PARENTS / 2;
@@ -46,7 +47,7 @@ pub fn parent_of(slot: &[u8; SLOT], j: usize) -> ident::Hash
     ident::Hash::from(places::read_parent(slot, 0, j))
 }
 
-// Announces the parents from .. to beside those before them that wait; answers the bits of those kept.
+// Announces the parents from .. to beside those that wait; answers the bits of those kept.
 fn announce_bits(
     s: &mut [u8],
     p: Parents,
@@ -55,14 +56,14 @@ fn announce_bits(
     from: usize,
     to: usize,
 ) -> u64
-    requires { Supplies (words p.slot.now) p.connection.number p.clock s.old (words new.old.bytes) (words q.old.listed.bytes) (from - new.old.count) new.old.count (reserve_of q.old)
-        × (new.old.count ≤ from) × (from ≤ to) × (to ≤ from + half_most) × (to ≤ p.count) }
-    ensures { HalfIn (words p.entry.slot.now) p.entry.connection.number p.entry.clock s.old s.new (words new.old.bytes) (words new.new.bytes) (words q.old.listed.bytes)
-        (words q.new.listed.bytes) from to new.old.count (reserve_of q.old) (record { bits = result; waiting = new.new.count; reserve = reserve_of q.new }) }
+    requires { Supplies p.connection.number s.old (words new.old.bytes) (words q.old.listed.bytes) new.old.count (reserve_of q.old)
+        × (from ≤ to) × (to ≤ from + half_most) × (to ≤ p.count) }
+    ensures { HalfIn p.entry.connection.number p.entry.clock s.old s.new (words new.old.bytes) (words new.new.bytes) (words q.old.listed.bytes) (words q.new.listed.bytes)
+        from (hashes_at (words p.entry.slot.now) from (to - from)) new.old.count (reserve_of q.old) (record { bits = result; waiting = new.new.count; reserve = reserve_of q.new }) }
 {
     let mut bits = 0;
     for j in from..to {
-        let kept = displacing::announce_further(s, p, new, q, j);
+        let kept = displacing::announce_further(s, new, q, p.parent(j));
         bits += u64::from(kept) << (j - from);
     }
     bits
@@ -79,7 +80,7 @@ pub fn announce_all(s: &mut [u8], p: Parents, spent: bool) -> Announced
     let e = first_half(p.count);
     let low = announce_bits(s, p, &mut new, &mut q, 0, e);
     let high = announce_bits(s, p, &mut new, &mut q, e, p.count);
-    joining::let_in(s, &mut new, p.slot, p.connection.number, p.clock, p.count);
+    displacing::finish(s, &mut new, &mut q, p.connection.number);
     Announced {
         note: Note { low, high },
         spent: q.spent,

@@ -1,12 +1,12 @@
 // Parents of a place, as they are announced: read from the bytes of the place.
-ghost use Rattle.std.specs.Prelude.{◌≡◌, ◌≤◌, ◌<◌};
-ghost use Rattle.ident.specs.Words.{hash_num};
+ghost use Rattle.std.specs.Prelude.{◌≤◌, ◌<◌};
 ghost use Rattle.words.specs.Words.{words};
 ghost use Rattle.places.specs.Places.{list_most};
-ghost use Rattle.apart.specs.Noting.{parent_in};
+ghost use Rattle.apart.specs.Noting.{ParentAt};
 
 use crate::SLOT;
 use ident::connection::Connection;
+use parenting::parent::Parent;
 
 // The first parents of a place, announced for a connection at a time.
 #[derive(Clone, Copy)]
@@ -19,11 +19,17 @@ pub struct Parents<'a> {
 }
 
 impl<'a> Parents<'a> {
-    // The j-th of the place.
-    pub fn hash(self, j: usize) -> ident::Hash
-        requires { j < list_most }
-        ensures { hash_num result ≡ parent_in (words self.entry.slot.now) j }
+    // The j-th of them.
+    pub fn parent(self, j: usize) -> Parent
+        requires { j < self.count }
+        ensures { ParentAt (words self.entry.slot.now) self.entry.connection.number self.entry.clock j result }
     {
-        crate::noting::parent_of(self.slot, j)
+        Parent {
+            hash: crate::noting::parent_of(self.slot, j),
+            connection: self.connection,
+            clock: self.clock,
+            priority: j,
+            count: self.count,
+        }
     }
 }

@@ -1,10 +1,10 @@
-// Owners whose time is over, where no request has a package: one pass over the rows takes theirs out. In between the bytes write rows
+// Owners whose time is over, where none of them has a place: one pass over the rows takes theirs out. In between the bytes write rows
 // and their tally (`Shorn`).
 ghost use Rattle.std.specs.Prelude.{◌≡◌, ◌≤◌, ◌<◌};
 ghost use Rattle.store.specs.Shown.{rows_in, Shown, Kept};
 ghost use Rattle.requests.specs.Changes.{Makes};
 ghost use Rattle.announcing.specs.Drops.{RowKept};
-ghost use Rattle.apart.specs.Silent.{Placeless, dropped_all, is_due};
+ghost use Rattle.apart.specs.Silent.{Unburdened, dropped_all, is_due};
 
 use store::rows::Window;
 
@@ -34,7 +34,7 @@ fn drop_row(s: &mut [u8], m: usize, i: usize, clock: u64) -> usize
 #[tactic(auto, using(announcing::proofs::Lent::kept_long))]
 pub fn drop_due(s: &mut [u8], clock: u64)
     requires { Kept s.old }
-    ensures { Makes s.old s.new Placeless (dropped_all clock) }
+    ensures { Makes s.old s.new (Unburdened clock) (dropped_all clock) }
 {
     let n = store::head::rows(s);
     let mut m = 0;

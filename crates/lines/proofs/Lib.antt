@@ -1,7 +1,9 @@
 pub mod Writing
 pub mod Scans
 pub mod Letters
+pub mod DigitValues
 pub mod Splitting
 pub mod Sameness
 pub mod Hashes
+pub mod HashWords
 pub mod Finding

@@ -1,11 +1,10 @@
 -- What the readers' answers say: the value of a field as the definitions of machine/specs/Fields give it.
-use Rattle.std.specs.Prelude.{ℕ, ◌+◌, ◌*◌, ◌≤◌, Bool, ◌&&◌, ltb, if◌then◌else◌, Option, None, Some}
-use lib.Dec.{lit≤}
+use Rattle.std.specs.Prelude.{ℕ, ◌+◌, ◌*◌, Bool, ◌&&◌, ltb, if◌then◌else◌, Option, None, Some}
 use Rattle.std.proofs.Math.Option as math
 use Rattle.std.proofs.Math.Option.{none, some}
 use Rattle.ident.specs.declared.Kind.{Kind}
 use Rattle.ident.specs.declared.ItemKind.{ItemKind}
-use Rattle.ident.specs.Number.{Key, Item, top}
+use Rattle.ident.specs.Number.{Key, Item}
 use Rattle.regions.specs.declared.Quad.{Quad}
 use Rattle.regions.specs.Rows.{quad_number}
 use Rattle.lines.specs.declared.read.Named.{Named}
@@ -18,10 +17,6 @@ value_in f (Some x) = some (f x)
 -- n with one digit more in base b, if the digit is of that base, and the number stays below m
 abbrev pub with_digit : ℕ → ℕ → ℕ → ℕ → math.Option ℕ
 with_digit b m n d = if ltb d b && ltb (n * b + d) m then some (n * b + d) else none
-
-pub sixteen-top : 16 ≤ top
-unfolding top
-sixteen-top = lit≤ tt
 
 abbrev pub number_in : Option ℕ → math.Option ℕ
 number_in o = value_in (λ n. n) o

@@ -3,9 +3,11 @@ ghost use Rattle.std.specs.Prelude.{ℕ, ◌≡◌, ◌+◌, ◌^◌, ◌≤◌,
 ghost use lib.Dec.{lit≤};
 ghost use Rattle.regions.specs.Rows.{quad_number};
 ghost use Rattle.ident.specs.Words.{key_num};
-ghost use Rattle.ident.specs.Number.{top};
 ghost use Rattle.machine.specs.Fields.{numeral_of, number_of, type_of, hash_of, bool_of, kind_of, key_of, letter_kind, other_kind, other_of, item_of, same_text, before};
-ghost use Rattle.lines.specs.Values.{value_in, with_digit, sixteen-top, named_key, number_in, hash_in, bool_in, key_in, item_kind_in, item_in};
+ghost use Rattle.machine.specs.Claim.{elem};
+ghost use Rattle.machine.specs.Text.{hash_digits};
+ghost use Rattle.lines.specs.Hexadecimal.{hex_of};
+ghost use Rattle.lines.specs.Values.{value_in, with_digit, named_key, number_in, hash_in, bool_in, key_in, item_kind_in, item_in};
 
 use crate::digits::value;
 
@@ -38,36 +40,28 @@ impl From<Named<ident::Kind>> for regions::Key {
     }
 }
 
-// ---- Numbers and hashes
+// ---- Numbers
 
-// A number that is read digit by digit, the highest first.
+// A decimal number that is read digit by digit, the highest first.
 trait Numeral: Copy {
     ghost number: { Self → ℕ };
-
-    ghost base: { ℕ };
 
     ghost limit: { ℕ };
 
     fn zero() -> Self
         ensures { number result ≡ 0 };
 
-    // The number with one digit more, if there is such a digit in its base, and the number stays below its limit.
+    // The number with one digit more, if there is such a decimal digit, and the number stays below its limit.
     fn with_digit(self, digit: u64) -> Option<Self>
-        ensures { value_in number result ≡ with_digit base limit (number self) digit };
+        ensures { value_in number result ≡ with_digit 10 limit (number self) digit };
 
-    ghost base_in: { base ≤ 16 };
-
-    ghost limit_in: { base ≤ limit };
+    ghost limit_in: { 10 ≤ limit };
 }
 
 impl Numeral for u64 {
     ghost number = { λ n. n };
 
-    ghost base = { 10 };
-
     ghost limit = { 2 ^ 64 };
-
-    ghost base_in = { lit≤ tt };
 
     ghost limit_in = { lit≤ tt };
 
@@ -87,11 +81,7 @@ impl Numeral for u64 {
 impl Numeral for u32 {
     ghost number = { λ n. n };
 
-    ghost base = { 10 };
-
     ghost limit = { 2 ^ 32 };
-
-    ghost base_in = { lit≤ tt };
 
     ghost limit_in = { lit≤ tt };
 
@@ -105,43 +95,9 @@ impl Numeral for u32 {
     }
 }
 
-// The weight of a word's highest hexadecimal digit.
-pub const HIGH_DIGIT: u64 = 0x1000_0000_0000_0000;
-
-impl Numeral for regions::Quad {
-    ghost number = { quad_number };
-
-    ghost base = { 16 };
-
-    ghost limit = { top };
-
-    ghost base_in = { lit≤ tt };
-
-    ghost limit_in = { sixteen-top };
-
-    fn zero() -> Self {
-        regions::Quad::ZERO
-    }
-
-    fn with_digit(self, digit: u64) -> Option<Self> {
-        if 16 <= digit {
-            return None;
-        }
-        if HIGH_DIGIT <= self.w3 {
-            return None;
-        }
-        Some(regions::Quad {
-            w0: self.w0 % HIGH_DIGIT * 16 + digit,
-            w1: self.w1 % HIGH_DIGIT * 16 + self.w0 / HIGH_DIGIT,
-            w2: self.w2 % HIGH_DIGIT * 16 + self.w1 / HIGH_DIGIT,
-            w3: self.w3 * 16 + self.w2 / HIGH_DIGIT,
-        })
-    }
-}
-
-// What the digits of f write; no digit follows a leading zero.
+// What the decimal digits of f write; no digit follows a leading zero.
 fn digits_of<N: Numeral>(f: &[u8]) -> Option<N>
-    ensures { value_in N.number result ≡ numeral_of N.base N.limit f.now }
+    ensures { value_in N.number result ≡ numeral_of 10 N.limit f.now }
 {
     let (&first, rest) = f.split_first()?;
     let first = value(first)?;
@@ -161,10 +117,55 @@ pub fn number(f: &[u8]) -> Option<u64>
     digits_of(f)
 }
 
+// ---- Hashes
+
+// Digits of a word.
+const WORD_DIGITS: usize = 16;
+
+// Digits of a hash.
+const HASH_DIGITS: usize = 4 * WORD_DIGITS;
+
+// The word that hexadecimal digits write, leading zeros and all.
+fn word(f: &[u8]) -> Option<u64>
+    requires { length f.now ≤ 16 }
+    ensures { number_in result ≡ hex_of f.now }
+{
+    let mut n = 0;
+    for &c in f {
+        let digit = value(c)?;
+        n = n * 16 + digit;
+    }
+    Some(n)
+}
+
+// The words that digits of a hash write, the highest first.
+fn words(f: &[u8]) -> Option<regions::Quad>
+    requires { length f.now ≤ hash_digits }
+    ensures { hash_in result ≡ hex_of f.now }
+{
+    let c = f.len().saturating_sub(WORD_DIGITS);
+    let b = c.saturating_sub(WORD_DIGITS);
+    let a = b.saturating_sub(WORD_DIGITS);
+    let w3 = word(&f[..a])?;
+    let w2 = word(&f[a..b])?;
+    let w1 = word(&f[b..c])?;
+    let w0 = word(&f[c..])?;
+    Some(regions::Quad { w0, w1, w2, w3 })
+}
+
+// (Not digit by digit as a number is read: each would move four words on.)
 pub fn hash(f: &[u8]) -> Option<regions::Quad>
     ensures { hash_in result ≡ hash_of f.now }
 {
-    digits_of(f)
+    let (&first, rest) = f.split_first()?;
+    // (`&`: both are known here, so that there is one way through.)
+    if (first == b'0') & !rest.is_empty() {
+        return None;
+    }
+    if HASH_DIGITS < f.len() {
+        return None;
+    }
+    words(f)
 }
 
 // ---- Bools, keys, items
@@ -256,8 +257,20 @@ pub fn item(f: &[u8]) -> Option<Named<ident::ItemKind>>
 
 // ---- Fields
 
-// The first index at or after from where s has x, or its length.
-pub fn find(s: &[u8], from: usize, x: u8) -> usize
+// Whether x stands among bytes.
+// (No `contains`: each byte is compared, whatever the others are, so that many are compared at a time.)
+fn stands(s: &[u8], x: u8) -> bool
+    ensures { result ≡ elem x s.now }
+{
+    let mut found = false;
+    for &c in s {
+        found = found | (c == x);
+    }
+    found
+}
+
+// The first index at or after from where s has x, or its length: byte by byte.
+fn seek(s: &[u8], from: usize, x: u8) -> usize
     requires { from ≤ length s.now }
     ensures { result ≡ from + length (before x (drop from s.now)) }
 {
@@ -265,6 +278,24 @@ pub fn find(s: &[u8], from: usize, x: u8) -> usize
         Some(i) => from + i,
         None => s.len(),
     }
+}
+
+// Bytes that are passed at a time.
+const BLOCK: usize = 32;
+
+// The first index at or after from where s has x, or its length.
+pub fn find(s: &[u8], from: usize, x: u8) -> usize
+    requires { from ≤ length s.now }
+    ensures { result ≡ from + length (before x (drop from s.now)) }
+{
+    let mut at = from;
+    while BLOCK <= s.len() - at {
+        if stands(&s[at..at + BLOCK], x) {
+            return seek(s, at, x);
+        }
+        at += BLOCK;
+    }
+    seek(s, at, x)
 }
 
 // Where the field that starts at from ends: at the next comma, or with the line.

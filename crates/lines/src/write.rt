@@ -8,7 +8,6 @@ ghost use Rattle.machine.specs.Text.{decimal_digits, decimal, hash_digits, hexad
 ghost use Rattle.lines.specs.Text.{Wrote};
 
 use crate::digits::text;
-use crate::read::HIGH_DIGIT;
 
 pub fn put_decimal(s: &mut [u8], a: usize, n: u64) -> usize
     requires { a + decimal_digits ≤ length s.old }
@@ -22,6 +21,9 @@ pub fn put_decimal(s: &mut [u8], a: usize, n: u64) -> usize
     s[e] = text(n % 10);
     e + 1
 }
+
+// The weight of a word's highest hexadecimal digit.
+const HIGH_DIGIT: u64 = 0x1000_0000_0000_0000;
 
 // Whether q is a number of one hexadecimal digit.
 fn is_digit(q: regions::Quad) -> bool

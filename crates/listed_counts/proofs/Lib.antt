@@ -1,3 +1,4 @@
+pub mod FrontFields
 pub mod Numbers
 pub mod Lines
 pub mod Tables

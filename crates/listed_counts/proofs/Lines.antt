@@ -4,17 +4,18 @@ use mathlib.Core.Path.{◌≡◌, refl, sym, ap, ◌∙◌}
 use mathlib.Core.Bool.{Bool, true, false}
 use mathlib.Core.List.{List, [], ◌∷◌, ◌++◌}
 use mathlib.Core.Option.{Option, none, some}
-use lib.ListN.{length, drop, drop_of_length-le}
-use Rattle.machine.specs.State.{Owner}
-use Rattle.machine.specs.Listing.{Line, HeadLine, RequestLine, CandidateLine}
-use Rattle.std.specs.Prelude as answer
-use Rattle.lines.specs.Values.{number_in}
+use lib.ListN.{length, drop_of_length-le}
+use Rattle.machine.specs.State.{Owner, is_some}
+use Rattle.machine.specs.Listing.{Line, HeadLine, RequestLine, CandidateLine, Rest, candidate_then, request_then, rest_of}
+use Rattle.machine.proofs.Tests.{never}
 use Rattle.heavy.specs.Counters.{names_of, counts_of}
 use Rattle.heavy.specs.Streams.{owners_of, line_connections, line_owners}
-use Rattle.listed_lines.specs.Given.{LineAt, line_in, lines_of_text, LineRead}
+use Rattle.listed_lines.specs.Given.{lines_of_text}
+use Rattle.listed_form.specs.Given.{Body}
 use Rattle.listed_form.proofs.Forms.{no-line_left}
-use Rattle.listed_form.proofs.Stepping.{parted}
-use Rattle.listed_counts.specs.Passes.{stream, owner_number, added, Adds, names_added, counts_added, counted_added, Notes, Counts, NotesAll, CountsAll}
+use Rattle.listed_counts.specs.declared.fronts.Front.{Front}
+use Rattle.listed_counts.specs.Fronts.{owner_number, added, number_for, Behind, FrontRead}
+use Rattle.listed_counts.specs.Passes.{stream, names_added, counts_added, counted_added, Notes, Counts, NotesAll, CountsAll}
 
 -- ---- a line's number in front of the others
 
@@ -26,7 +27,7 @@ owner-behind : (o : Option Owner) (xs : List ℕ) → owners_of o ++ xs ≡ behi
 owner-behind none xs = refl
 owner-behind (some o) xs = refl
 
-stream-line : (o : Bool) (l : Line) (ls : List Line) → stream o (l ∷ ls) ≡ behind (added o (some l)) (stream o ls)
+stream-line : (o : Bool) (l : Line) (ls : List Line) → stream o (l ∷ ls) ≡ behind (added o l) (stream o ls)
 unfolding stream line_owners line_connections
 stream-line true (HeadLine s) ls = refl
 stream-line true (RequestLine r) ls = owner-behind r.owner (line_owners ls)
@@ -40,41 +41,61 @@ unfolding stream line_owners line_connections
 stream_none true = refl
 stream_none false = refl
 
+-- ---- a line in front of others that list requests
+
+record Tail (l : Line) (ls : List Line) : Type 0 where
+  behind_first : Behind l
+  rest : Rest
+  list : rest_of ls ≡ some rest
+
+tail : (l : Line) (ls : List Line) {q : Rest} → rest_of (l ∷ ls) ≡ some q → Tail l ls
+unfolding rest_of
+tail (HeadLine s) ls e = never (ap is_some e)
+tail (RequestLine r) ls {q} e = go (rest_of ls) refl e
+  where
+    go : (o : Option Rest) → rest_of ls ≡ o → request_then r o ≡ some q → Tail (RequestLine r) ls
+    go none g d = never (ap is_some d)
+    go (some z) g d = record { behind_first = tt; rest = z; list = g }
+tail (CandidateLine c) ls {q} e = go (rest_of ls) refl e
+  where
+    go : (o : Option Rest) → rest_of ls ≡ o → candidate_then c o ≡ some q → Tail (CandidateLine c) ls
+    go none g d = never (ap is_some d)
+    go (some z) g d = record { behind_first = tt; rest = z; list = g }
+
 -- ---- any pass: what it makes of numbers, from what it has
 
 pub record LeftOf {S : Type 0} (f : List ℕ → S → List ℕ) (b : List ℕ) (o : Bool) (all : List ℕ) (at : ℕ) (s : S) : Type 0 where
-  pub lines : List Line
-  pub are : lines_of_text (drop at b) ≡ some lines
-  pub same : all ≡ f (stream o lines) s
+  pub rest : Rest
+  pub body : Body b at rest
+  pub same : all ≡ f (stream o body.lines) s
 
 pub record Left {S : Type 0} (f : List ℕ → S → List ℕ) (b : List ℕ) (from : ℕ) (o : Bool) (z : S) (at : ℕ) (s : S) : Type 0 where
-  pub is : (ls : List Line) → lines_of_text (drop from b) ≡ some ls → LeftOf f b o (f (stream o ls) z) at s
+  pub is : (q : Rest) (y : Body b from q) → LeftOf f b o (f (stream o y.lines) z) at s
 
 module _ {S : Type 0} (f : List ℕ → S → List ℕ) (g : Option ℕ → S → S) (step : (n : Option ℕ) (xs : List ℕ) (s : S) → f (behind n xs) s ≡ f xs (g n s)) {b : List ℕ} {o : Bool} where
-  one_line : {at : ℕ} {s : S} {l : LineAt} {ws ps all : List ℕ} → LeftOf f b o all at s → LineRead b at ws ps l → (n : Option ℕ) → n ≡ added o (line_in ws ps l.value)
-      → LeftOf f b o all l.end (g n s)
-  one_line {at} {s} {l} {ws} {ps} {all} y p n h =
-      let d = parted (line_in ws ps l.value) (lines_of_text (drop l.end b)) (sym p.is ∙ y.are) in
-      let k : added o (some d.first) ≡ n = sym (h ∙ ap (added o) d.is) in
+  one_line : {at end : ℕ} {s : S} {r : Front} {all : List ℕ} → LeftOf f b o all at s → FrontRead b at r end → LeftOf f b o all end (g (number_for o r) s)
+  one_line {at} {end} {s} {r} {all} y p =
+      let d = p.is y.body.lines y.body.are in
+      let t = tail d.first d.others (ap rest_of (sym d.parts) ∙ y.body.list) in
+      let k : added o d.first ≡ number_for o r = sym (d.adds.is o d.first refl t.behind_first) in
       record {
-        lines = d.others;
-        are = d.are;
+        rest = t.rest;
+        body = record { inside = p.inside; lines = d.others; are = d.are; list = t.list };
         same = y.same ∙ ap (λ (ls : List Line). f (stream o ls) s) d.parts ∙ ap (λ (xs : List ℕ). f xs s) (stream-line o d.first d.others)
-            ∙ ap (λ (m : Option ℕ). f (behind m (stream o d.others)) s) k ∙ step n (stream o d.others) s;
+            ∙ ap (λ (m : Option ℕ). f (behind m (stream o d.others)) s) k ∙ step (number_for o r) (stream o d.others) s;
       }
 
   pub left_all : {from : ℕ} {z : S} → Left f b from o z from z
-  left_all = record { is = λ ls e. record { lines = ls; are = e; same = refl } }
+  left_all = record { is = λ q y. record { rest = q; body = y; same = refl } }
 
-  pub left_line : {from at : ℕ} {z s : S} {l : LineAt} {ws ps : List ℕ} {n : answer.Option ℕ} → Left f b from o z at s → LineRead b at ws ps l → Adds o l.value n
-      → Left f b from o z l.end (g (number_in n) s)
-  left_line {ws = ws} {ps = ps} {n = n} y p a = record { is = λ ls e. one_line (y.is ls e) p (number_in n) (a.is ws ps) }
+  pub left_line : {from at end : ℕ} {z s : S} {r : Front} → Left f b from o z at s → FrontRead b at r end → Left f b from o z end (g (number_for o r) s)
+  left_line y p = record { is = λ q z. one_line (y.is q z) p }
 
-  pub left_none : {from at : ℕ} {z s : S} → Left f b from o z at s → length b ≤ at → (ls : List Line) → lines_of_text (drop from b) ≡ some ls → f [] s ≡ f (stream o ls) z
-  left_none {at = at} {s = s} y h ls e =
-      let d = y.is ls e in
-      let k : some [] ≡ some d.lines = sym (ap lines_of_text (drop_of_length-le b h) ∙ no-line_left) ∙ d.are in
-      let m : d.lines ≡ [] = cc in
+  pub left_none : {from at : ℕ} {z s : S} → Left f b from o z at s → length b ≤ at → (q : Rest) (y : Body b from q) → f [] s ≡ f (stream o y.lines) z
+  left_none {at = at} {s = s} w h q y =
+      let d = w.is q y in
+      let k : some [] ≡ some d.body.lines = sym (ap lines_of_text (drop_of_length-le b h) ∙ no-line_left) ∙ d.body.are in
+      let m : d.body.lines ≡ [] = cc in
       sym (d.same ∙ ap (λ (ms : List Line). f (stream o ms) s) m ∙ ap (λ (xs : List ℕ). f xs s) (stream_none o))
 
 -- ---- the first pass
@@ -105,12 +126,11 @@ module _ {b : List ℕ} {from : ℕ} {o : Bool} {ns₀ ks₀ : List ℕ} where
   pub note-begin : Noting b from o ns₀ ks₀ from ns₀ ks₀
   note-begin = left_all names_from noted names-behind
 
-  pub note_on : {at : ℕ} {ns ks ns' ks' ws ps : List ℕ} {l : LineAt} {n : answer.Option ℕ} → Noting b from o ns₀ ks₀ at ns ks → LineRead b at ws ps l → Adds o l.value n → Notes n ns ks ns' ks'
-      → Noting b from o ns₀ ks₀ l.end ns' ks'
-  note_on y p a h = rw (h.names, h.counts) (left_line names_from noted names-behind y p a)
+  pub note_on : {at end : ℕ} {ns ks ns' ks' : List ℕ} {r : Front} → Noting b from o ns₀ ks₀ at ns ks → FrontRead b at r end → Notes (number_for o r) ns ks ns' ks' → Noting b from o ns₀ ks₀ end ns' ks'
+  note_on y p h = rw (h.names, h.counts) (left_line names_from noted names-behind y p)
 
   pub note_end : {at : ℕ} {ns ks : List ℕ} → Noting b from o ns₀ ks₀ at ns ks → length b ≤ at → NotesAll b from o ns₀ ks₀ ns
-  note_end {ns = ns} {ks = ks} y h = record { is = λ ls e. sym (names_done (record { names = ns; counts = ks })) ∙ left_none names_from noted names-behind y h ls e }
+  note_end {ns = ns} {ks = ks} y h = record { is = λ q z. sym (names_done (record { names = ns; counts = ks })) ∙ left_none names_from noted names-behind y h q z }
 
 -- ---- the second pass
 
@@ -137,9 +157,8 @@ pub count-begin : {b : List ℕ} {from : ℕ} {o : Bool} {ks₀ : List ℕ} (ns 
 count-begin ns = left_all (counts_from ns) (counted ns) (counts_behind ns)
 
 module _ {b : List ℕ} {from : ℕ} {o : Bool} {ns ks₀ : List ℕ} where
-  pub count_on : {at : ℕ} {ks ks' ws ps : List ℕ} {l : LineAt} {n : answer.Option ℕ} → Counting b from o ns ks₀ at ks → LineRead b at ws ps l → Adds o l.value n → Counts n ns ks ks'
-      → Counting b from o ns ks₀ l.end ks'
-  count_on y p a h = rw h.counts (left_line (counts_from ns) (counted ns) (counts_behind ns) y p a)
+  pub count_on : {at end : ℕ} {ks ks' : List ℕ} {r : Front} → Counting b from o ns ks₀ at ks → FrontRead b at r end → Counts (number_for o r) ns ks ks' → Counting b from o ns ks₀ end ks'
+  count_on y p h = rw h.counts (left_line (counts_from ns) (counted ns) (counts_behind ns) y p)
 
   pub count_end : {at : ℕ} {ks : List ℕ} → Counting b from o ns ks₀ at ks → length b ≤ at → CountsAll b from o ns ks₀ ks
-  count_end {ks = ks} y h = record { is = λ ls e. sym (counts_done ns ks) ∙ left_none (counts_from ns) (counted ns) (counts_behind ns) y h ls e }
+  count_end {ks = ks} y h = record { is = λ q z. sym (counts_done ns ks) ∙ left_none (counts_from ns) (counted ns) (counts_behind ns) y h q z }

@@ -8,8 +8,6 @@ use native.Mathlib.Omega.{arith}
 use lib.ListN.{length}
 use borrow.Author.Tests.{ltb-true, ltb-false}
 use Rattle.machine.proofs.Tests.{test}
-use Rattle.std.specs.Prelude as answer
-use Rattle.lines.specs.Values.{number_in}
 use Rattle.heavy.specs.Counters.{index_of, is_in, counts_with, counted_with, sum}
 use Rattle.heavy.proofs.Held.{sum-raised, sum-taken, sum-lowered}
 use Rattle.listed_counts.specs.Passes.{counts_added, counted_added, Notes, Counts}
@@ -34,15 +32,15 @@ module _ (ns ks : List ℕ) (e : length ns ≡ length ks) where
     | inr t ↦ rw t (omega arith)
   ]
 
-  pub sum-noted : {n : answer.Option ℕ} {ns' ks' : List ℕ} → Notes n ns ks ns' ks' → sum ks' ≤ suc (sum ks)
-  sum-noted {n} h = rw h.counts (by (number_in n))
+  pub sum-noted : {n : Option ℕ} {ns' ks' : List ℕ} → Notes n ns ks ns' ks' → sum ks' ≤ suc (sum ks)
+  sum-noted {n} h = rw h.counts (by n)
     where
       by : (o : Option ℕ) → sum (counts_added o ns ks) ≤ suc (sum ks)
       by none = omega arith
       by (some x) = sum_with x
 
-  pub sum_more : {n : answer.Option ℕ} {ks' : List ℕ} → Counts n ns ks ks' → sum ks' ≤ suc (sum ks)
-  sum_more {n} h = rw h.counts (by (number_in n))
+  pub sum_more : {n : Option ℕ} {ks' : List ℕ} → Counts n ns ks ks' → sum ks' ≤ suc (sum ks)
+  sum_more {n} h = rw h.counts (by n)
     where
       by : (o : Option ℕ) → sum (counted_added o ns ks) ≤ suc (sum ks)
       by none = omega arith

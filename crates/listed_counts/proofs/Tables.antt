@@ -1,7 +1,7 @@
 -- What the passes tell of the table that the lines list.
 use Prim.Native.Nat.{ℕ, suc, ◌≤◌}
 use mathlib.Core.Path.{◌≡◌, refl, sym, ap, subst, ◌∙◌}
-use mathlib.Core.Bool.{Bool, true, false}
+use mathlib.Core.Bool.{Bool, true, false, ◌&&◌}
 use mathlib.Core.List.{List, [], ◌∷◌}
 use mathlib.Core.Option.{Option, none, some}
 use native.Mathlib.Omega.{arith}
@@ -28,8 +28,8 @@ pub passes-tell : {b : List ℕ} {from most : ℕ} {o : Bool} {ns ks ns' zs zs' 
     → length ns ≡ length ks → sum ks ≡ 0 → length ns' ≡ length zs → sum zs ≡ 0 → Verdict b from o most (length ks) r
 passes-tell {most = most} {o = o} {ns = ns} {ks = ks} {zs = zs} n c e d z w y =
     record {
-      is = λ ls g h. let l : length zs ≡ length ks = sym w ∙ ap length (n.is ls g) ∙ length_named (stream o ls) ns ks ∙ d in
-          rw (e, c.is ls g, n.is ls g) (heavy-decides most (stream o ls) ns ks zs d z l y h);
+      is = λ q v h. let l : length zs ≡ length ks = sym w ∙ ap length (n.is q v) ∙ length_named (stream o v.lines) ns ks ∙ d in
+          rw (e, c.is q v, n.is q v) (heavy-decides most (stream o v.lines) ns ks zs d z l y h);
     }
 
 pub verdict_with : {b : List ℕ} {from most k m : ℕ} {o r : Bool} → k ≡ m → Verdict b from o most k r → Verdict b from o most m r
@@ -84,27 +84,19 @@ module _ {b : List ℕ} {from : ℕ} {t : Table} (y : Body b from (requests_only
   module _ {r : Bool} (h : held t ≤ max_announcements) where
     few_connections : Verdict b from false 5000 19 r → Decides r (Few 5000 (connections_in t))
     few_connections v =
-        let d = v.is y.lines y.are (omega (arith, ap length connections-are, length-connections t)) in
+        let d = v.is _ y (omega (arith, ap length connections-are, length-connections t)) in
         subst (λ (xs : List ℕ). Decides r (Few 5000 xs)) connections-are d
 
     few_owners : every is_filled t ≡ true → Verdict b from true 100 999 r → Decides r (Few 100 (owners_in t))
     few_owners f v =
-        let d = v.is y.lines y.are (omega (arith, ap length owners-are, length-owners t f)) in
+        let d = v.is _ y (omega (arith, ap length owners-are, length-owners t f)) in
         subst (λ (xs : List ℕ). Decides r (Few 100 xs)) owners-are d
 
-module _ {b : List ℕ} {from : ℕ} where
-  pub heavy_held : {x : Bool} → Verdict b from false 5000 19 x → x ≡ false → LightRead b from false
-  heavy_held v e = record {
-    is = λ t y h f l. let d : Decides false (Few 5000 (connections_in t)) = rw e at (few_connections y h v) in d (few_held 5000 t l.held);
-  }
-
-  pub light_told : {x r : Bool} → Verdict b from false 5000 19 x → x ≡ true → Verdict b from true 100 999 r → LightRead b from r
-  light_told {r = r} v e w = record {
-    is = λ t y h f.
-        let d : Few 5000 (connections_in t) = rw e at (few_connections y h v) in
-        by t d r (few_owners y h f w);
-  }
-    where
-      by : (t : Table) → Few 5000 (connections_in t) → (r : Bool) → Decides r (Few 100 (owners_in t)) → Decides r (Light t)
-      by t d true g = record { held = held_few 5000 t d; owned = owned_few 100 t g }
-      by t d false g = λ l. g (few_owned 100 t l.owned)
+-- both verdicts
+pub light-told : {b : List ℕ} {from : ℕ} {x y : Bool} → Verdict b from false 5000 19 x → Verdict b from true 100 999 y → LightRead b from (x && y)
+light-told {b} {from} {x} {y} v w = record { is = λ t z h f. by t x y (few_connections z h v) (few_owners z h f w) }
+  where
+    by : (t : Table) (x y : Bool) → Decides x (Few 5000 (connections_in t)) → Decides y (Few 100 (owners_in t)) → Decides (x && y) (Light t)
+    by t true true d g = record { held = held_few 5000 t d; owned = owned_few 100 t g }
+    by t true false d g = λ l. g (few_owned 100 t l.owned)
+    by t false y d g = λ l. d (few_held 5000 t l.held)

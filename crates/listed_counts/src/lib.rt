@@ -1,96 +1,73 @@
 // How often connections come in a saved listing (document 02, request b): whether one has more than 5,000 announcements, or owns more than 100 requests.
 //
-// From the text alone, in two passes for each, with a few counters (crates/heavy): 19 of them tell of 100,000 candidates which come more than 5,000 times, 999
-// of as many owners which come more than 100 times.
+// From the text alone, in two passes, with a few counters (crates/heavy): 19 of them tell of 100,000 candidates which come more than 5,000 times, 999
+// of as many owners which come more than 100 times. The first pass names connections and owners, the second counts those that have a name.
 #![tactic(auto)]
 
-ghost use Rattle.std.specs.Prelude.{◌≡◌, Bool, true, false, ◌<◌, ◌^◌, length};
-ghost use Rattle.heavy.specs.Counters.{names_in, counts_in, sum};
-ghost use Rattle.listed_counts.specs.Passes.{Adds, Notes, Counts, NotesAll, CountsAll, Verdict, LightRead};
+ghost use Rattle.std.specs.Prelude.{◌≡◌, true, false, ◌<◌, ◌^◌, length};
+ghost use Rattle.heavy.specs.Counters.{names_in, counts_in, none_above, sum};
+ghost use Rattle.listed_counts.specs.Fronts.{number_for};
+ghost use Rattle.listed_counts.specs.Passes.{Notes, Counts, NotesAll, CountsAll, LightRead};
 
+use crate::fronts::{Front, next_front};
 use heavy::Counter;
-use listed_lines::cursor::{Lines, ListBytes, Lists};
-use listed_lines::line::Line;
+use listed_lines::cursor::Lines;
 use machine::limits::{MAX_PEER_ANNOUNCEMENTS, MAX_PEER_IN_FLIGHT};
 
-// ---- the number that a line adds
+pub mod fronts;
 
-// What a pass counts: the owners, or the candidates' connections.
-trait Counted {
-    // Which of the two it is, for its contract alone.
-    ghost owners: { Bool };
+// ---- one line more: candidates' connections have counters, owners have others
 
-    // That of a line, if it has one.
-    fn number_of(l: Line) -> Option<u64>
-        ensures { Adds owners l result };
-}
+// Two functions of one shape, here and below: one notes a number, the other counts it, and each has a loop's invariant of its own. One walk over a closure would ask for a
+// contract of the closure beside these two, and for the counters to be lent to it.
 
-struct Owners;
-
-struct Connections;
-
-impl Counted for Owners {
-    ghost owners = { true };
-
-    fn number_of(l: Line) -> Option<u64> {
-        match l {
-            Line::Request(r) => r.owner.map(|o| o.connection),
-            _ => None,
-        }
-    }
-}
-
-impl Counted for Connections {
-    ghost owners = { false };
-
-    fn number_of(l: Line) -> Option<u64> {
-        match l {
-            Line::Candidate(c) => Some(c.connection),
-            _ => None,
-        }
-    }
-}
-
-// ---- the passes over the lines (no `for`: an `Iterator` has no lists to lend to `Lines::next`)
-
-// Two functions of one shape: one notes a number, the other counts it, and each has a loop's invariant of its own. One walk over a closure would ask for a contract of
-// the closure beside these two, and for the counters to be lent to it.
-
-fn note_number(counters: &mut [Counter], n: Option<u64>)
-    requires { sum (counts_in counters.old) < 2 ^ 63 }
-    ensures { Notes n (names_in counters.old) (counts_in counters.old) (names_in counters.new) (counts_in counters.new) }
+fn note_front(connections: &mut [Counter], owners: &mut [Counter], f: Front)
+    requires { (sum (counts_in connections.old) < 2 ^ 63) × (sum (counts_in owners.old) < 2 ^ 63) }
+    ensures connections { Notes (number_for false f) (names_in connections.old) (counts_in connections.old) (names_in connections.new) (counts_in connections.new) }
+    ensures owners { Notes (number_for true f) (names_in owners.old) (counts_in owners.old) (names_in owners.new) (counts_in owners.new) }
 {
-    if let Some(x) = n {
-        heavy::note(counters, x);
+    match f {
+        Front::Nobody => {}
+        Front::Owner(n) => heavy::note(owners, n),
+        Front::Connection(n) => heavy::note(connections, n),
     }
 }
 
-fn count_number(counters: &mut [Counter], n: Option<u64>)
-    requires { sum (counts_in counters.old) < 2 ^ 63 }
-    ensures { (names_in counters.new ≡ names_in counters.old) × Counts n (names_in counters.old) (counts_in counters.old) (counts_in counters.new) }
+fn count_front(connections: &mut [Counter], owners: &mut [Counter], f: Front)
+    requires { (sum (counts_in connections.old) < 2 ^ 63) × (sum (counts_in owners.old) < 2 ^ 63) }
+    ensures connections { (names_in connections.new ≡ names_in connections.old) × Counts (number_for false f) (names_in connections.old) (counts_in connections.old) (counts_in connections.new) }
+    ensures owners { (names_in owners.new ≡ names_in owners.old) × Counts (number_for true f) (names_in owners.old) (counts_in owners.old) (counts_in owners.new) }
 {
-    if let Some(x) = n {
-        heavy::count(counters, x);
+    match f {
+        Front::Nobody => {}
+        Front::Owner(n) => heavy::count(owners, n),
+        Front::Connection(n) => heavy::count(connections, n),
     }
 }
 
-fn note_lines<N: Counted>(mut lines: Lines, counters: &mut [Counter], lists: &mut Lists)
-    requires { sum (counts_in counters.old) ≡ 0 }
-    ensures { NotesAll lines.entry.text.now lines.entry.at N.owners (names_in counters.old) (counts_in counters.old) (names_in counters.new) }
+// ---- the passes over the lines (no `for`: an `Iterator` would have to say which lines are left)
+
+fn note_lines(mut lines: Lines, connections: &mut [Counter], owners: &mut [Counter])
+    requires { (sum (counts_in connections.old) ≡ 0) × (sum (counts_in owners.old) ≡ 0) }
+    ensures connections { NotesAll lines.entry.text.now lines.entry.at false (names_in connections.old) (counts_in connections.old) (names_in connections.new) }
+    ensures owners { NotesAll lines.entry.text.now lines.entry.at true (names_in owners.old) (counts_in owners.old) (names_in owners.new) }
 {
-    while let Some(line) = lines.next(lists) {
-        note_number(counters, N::number_of(line));
+    while let Some(front) = next_front(&mut lines) {
+        note_front(connections, owners, front);
     }
 }
 
-fn count_lines<N: Counted>(mut lines: Lines, counters: &mut [Counter], lists: &mut Lists)
-    requires { sum (counts_in counters.old) ≡ 0 }
-    ensures { CountsAll lines.entry.text.now lines.entry.at N.owners (names_in counters.old) (counts_in counters.old) (counts_in counters.new) }
+fn count_lines(mut lines: Lines, connections: &mut [Counter], owners: &mut [Counter])
+    requires { (sum (counts_in connections.old) ≡ 0) × (sum (counts_in owners.old) ≡ 0) }
+    ensures connections { CountsAll lines.entry.text.now lines.entry.at false (names_in connections.old) (counts_in connections.old) (counts_in connections.new) }
+    ensures owners { CountsAll lines.entry.text.now lines.entry.at true (names_in owners.old) (counts_in owners.old) (counts_in owners.new) }
 {
-    while let Some(line) = lines.next(lists) {
-        count_number(counters, N::number_of(line));
+    while let Some(front) = next_front(&mut lines) {
+        count_front(connections, owners, front);
     }
 }
+
+// ---- counters
 
 // K counters at 0. (The bound says that there is an array of K of them; a const parameter has no other place for it.)
 fn zeros<const K: usize>() -> [Counter; K]
@@ -100,15 +77,10 @@ fn zeros<const K: usize>() -> [Counter; K]
     [Counter { name: 0, count: 0 }; K]
 }
 
-// Whether no number comes more than `most` times: named in one pass, counted in another, with K counters.
-fn none_often<N: Counted, const K: usize>(lines: Lines, most: u64, lists: &mut Lists) -> bool
-    requires { K < 2 ^ 58 }
-    ensures { Verdict lines.entry.text.now lines.entry.at N.owners most K result }
+// Whether no count is above `most`.
+fn few(counters: &[Counter], most: u64) -> bool
+    ensures { result ≡ none_above most (counts_in counters.now) }
 {
-    let mut counters = zeros::<K>();
-    note_lines::<N>(lines, &mut counters, lists);
-    heavy::restart(&mut counters);
-    count_lines::<N>(lines, &mut counters, lists);
     heavy::none_above(counters.iter().map(|c| c.count), most)
 }
 
@@ -116,8 +88,14 @@ fn none_often<N: Counted, const K: usize>(lines: Lines, most: u64, lists: &mut L
 pub fn light(lines: Lines) -> bool
     ensures { LightRead lines.entry.text.now lines.entry.at result }
 {
-    let mut bytes = ListBytes::zeros();
-    let mut lists = bytes.lend();
-    none_often::<Connections, 19>(lines, MAX_PEER_ANNOUNCEMENTS, &mut lists)
-        && none_often::<Owners, 999>(lines, MAX_PEER_IN_FLIGHT, &mut lists)
+    let mut connections = zeros::<19>();
+    let mut owners = zeros::<999>();
+    note_lines(lines, &mut connections, &mut owners);
+    heavy::restart(&mut connections);
+    heavy::restart(&mut owners);
+    count_lines(lines, &mut connections, &mut owners);
+    let light = few(&connections, MAX_PEER_ANNOUNCEMENTS);
+    let rare = few(&owners, MAX_PEER_IN_FLIGHT);
+    // (`&`: both are known here, so that there is one way through.)
+    light & rare
 }

@@ -10,7 +10,7 @@ use lib.ListN.{length, take, drop, length-drop}
 use lib.Seq.{drop-drop}
 use borrow.Author.Tests.{eqb-true, eqb-false}
 use Rattle.machine.specs.Fields.{before, behind, fields}
-use Rattle.machine.specs.Listing.{Line, short, head_of, request_of, candidate_of, line_of, new_line, in_line, text_lines, one_more, lines_in, lines_from}
+use Rattle.machine.specs.Listing.{Line, short, line_of, new_line, in_line, text_lines, one_more, lines_in, lines_from}
 use Rattle.machine.proofs.Tests.{test}
 use Rattle.machine.proofs.Parting.{take-before, before-skip, before-met, behind-skip, behind-met, before-length}
 use Rattle.listed_lines.specs.declared.line.Line as line
@@ -96,19 +96,3 @@ module _ (b : List ℕ) (at : ℕ) (h : at < length b) {end : ℕ} (g : end ≡ 
   line_is d e =
       let m : end < length b = omega (arith, before-length 10 (drop at b), length-drop at b) in
       record { is = line-ends m ∙ ap (λ (o : Option Line). one_more o (lines_of_text (drop (end + 1) b))) e; on = omega arith; inside = omega arith }
-
--- ---- the three forms
-
-module _ (fs : List (List ℕ)) where
-  pub line-head : {l : Line} → head_of short fs ≡ some l → line_of short fs ≡ some l
-  unfolding line_of
-  line-head e = rw e
-
-  module _ (n : head_of short fs ≡ none) where
-    pub line-request : {l : Line} → request_of short fs ≡ some l → line_of short fs ≡ some l
-    unfolding line_of
-    line-request e = rw (n, e)
-
-    pub line-candidate : request_of short fs ≡ none → line_of short fs ≡ candidate_of short fs
-    unfolding line_of
-    line-candidate e = rw (n, e)

@@ -4,3 +4,4 @@ pub mod Missing
 pub mod Lists
 pub mod Forms
 pub mod Ends
+pub mod Starts

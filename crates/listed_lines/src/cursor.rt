@@ -1,8 +1,9 @@
 // The lines of a text one after the other.
-ghost use Rattle.std.specs.Prelude.{◌≡◌, ◌≤◌, ◌↔◌, IsTrue, IfSome, IsNone, length, replicate};
+ghost use Rattle.std.specs.Prelude.{◌≡◌, ◌≤◌, ◌↔◌, IsTrue, IfSome, IsNone, length, drop, replicate};
+ghost use Rattle.listed_lines.specs.Starts.{keyed};
 ghost use Rattle.listed_lines.specs.Given.{LineRead, list_room};
 
-use crate::line::{Line, line_at};
+use crate::line::{Line, line_at, starts_request};
 use lent_lists::LIST;
 
 // Lent bytes for the two lists of a request's line, 32 for each hash.
@@ -53,6 +54,13 @@ impl<'a> Lines<'a> {
         ensures { IsTrue result ↔ (length self.now.text.now ≤ self.now.at) }
     {
         self.at == self.text.len()
+    }
+
+    // Whether the next line is a request's, as far as its first byte tells.
+    pub fn meets_request(&self) -> bool
+        ensures { result ≡ keyed (drop self.now.at self.now.text.now) }
+    {
+        starts_request(&self.text[self.at..])
     }
 
     // The next line, whose lists stand in the lent ones then. (No `Iterator`: it would have to hold them.)

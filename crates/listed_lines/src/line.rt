@@ -2,6 +2,7 @@
 ghost use Rattle.std.specs.Prelude.{◌≡◌, ◌<◌, length};
 ghost use Rattle.machine.specs.Fields.{fields};
 ghost use Rattle.machine.specs.Listing.{short, head_of, request_of, candidate_of, line_of};
+ghost use Rattle.listed_lines.specs.Starts.{keyed};
 ghost use Rattle.listed_lines.specs.Given.{head_line, request_line, candidate_line, line_in, LineRead};
 
 use crate::cursor::Lists;
@@ -109,17 +110,24 @@ fn read_candidate(line: &[u8]) -> Option<Candidate>
     })
 }
 
+// Whether a request's line stands here: a key's letter begins it, and no other line.
+pub fn starts_request(text: &[u8]) -> bool
+    ensures { result ≡ keyed text.now }
+{
+    matches!(text.first(), Some(b't' | b'w'))
+}
+
 // A line of bytes without its line feed. Where it is a request's, its wtxids and parents stand in the lent bytes.
 fn line_in(line: &[u8], lists: &mut Lists) -> Line
     ensures { line_of short (fields line.now) ≡ line_in lists.new.wtxids.now lists.new.parents.now result }
 {
-    if let Some(h) = read_head(line) {
-        return Line::Head(h);
+    if starts_request(line) {
+        return read_request(line, lists).map_or(Line::Not, Line::Request);
     }
-    if let Some(r) = read_request(line, lists) {
-        return Line::Request(r);
+    if let Some(c) = read_candidate(line) {
+        return Line::Candidate(c);
     }
-    read_candidate(line).map_or(Line::Not, Line::Candidate)
+    read_head(line).map_or(Line::Not, Line::Head)
 }
 
 // The line that starts at an index; it ends behind its line feed.

@@ -1,20 +1,30 @@
 -- The line that comes next, as a candidate's or as a request's.
-use Prim.Native.Nat.{ℕ, ◌≤◌}
-use mathlib.Core.Path.{◌≡◌, refl, sym, ap}
-use mathlib.Core.List.{List, []}
+use Prim.Native.Nat.{ℕ, ◌+◌, ◌-◌, ◌<◌, ◌≤◌}
+use mathlib.Core.Path.{◌≡◌, refl, sym, ap, ◌∙◌}
+use mathlib.Core.Bool.{Bool, true, false}
+use mathlib.Core.List.{List, [], ◌∷◌}
+use mathlib.Core.Logic.{inl, inr}
+use mathlib.Core.Option.{Option, none, some}
 use native.Mathlib.Omega.{arith}
-use lib.ListN.{length}
-use Rattle.std.specs.Prelude.{Some, None}
-use Rattle.machine.specs.State.{Table}
-use Rattle.machine.specs.Listing.{Rest}
-use Rattle.machine.proofs.Tests.{never}
+use lib.Dec.{eqb, ltb}
+use lib.ListN.{length, take, drop, length-drop, drop_of_length-le}
+use borrow.Author.Tests.{eqb-true, eqb-false, ltb-true, ltb-false}
+use Rattle.std.specs.Prelude.{Some, None, if◌then◌else◌}
+use Rattle.machine.specs.State.{Request, Table, with_candidates, is_some}
+use Rattle.machine.specs.Fields.{before, fields}
+use Rattle.machine.specs.Listing.{Line, HeadLine, RequestLine, CandidateLine, short, Rest, falls, request_then, rest_of, line_of, one_more}
+use Rattle.machine.proofs.Tests.{test, never}
+use Rattle.machine.proofs.Parting.{take-before, before-skip, before-length}
 use Rattle.listed_lines.specs.declared.line.Line as line-line
 use Rattle.listed_lines.specs.declared.line.Line.TheVariants.{Not as NoLine, Head as IsHead, Request as IsRequest, Candidate as IsCandidate}
 use Rattle.listed_lines.specs.declared.line.Request as line-request
 use Rattle.listed_lines.specs.declared.line.Candidate as line-candidate
-use Rattle.listed_lines.specs.Given.{LineAt, request_in, candidate_in, line_in, LineRead}
+use Rattle.listed_lines.specs.Given.{LineAt, request_in, candidate_in, line_in, lines_of_text, LineRead}
+use Rattle.listed_lines.specs.Starts.{keyed}
+use Rattle.listed_lines.proofs.Ends.{no_end, line-ends}
+use Rattle.listed_lines.proofs.Starts.{keyed-no-candidate}
 use Rattle.listed_form.specs.Given.{Body, requests_only}
-use Rattle.listed_form.proofs.Stepping.{after-candidate, after-request, no-bad-line, no-head-line, body_end}
+use Rattle.listed_form.proofs.Stepping.{parted, after-candidate, after-request, no-bad-line, no-head-line, body_end}
 use Rattle.listed_requests.specs.Given.{NextCandidate, NextRequest}
 
 module _ {b ws ps : List ℕ} {at : ℕ} {l : LineAt} (p : LineRead b at ws ps l) where
@@ -58,6 +68,59 @@ module _ {b ws ps : List ℕ} {at : ℕ} {l : LineAt} (p : LineRead b at ws ps l
       by_line (IsHead h) e y = no-head-line p y (ap (line_in ws ps) e)
       by_line (IsRequest r) e y = other r e
       by_line (IsCandidate c) e y = let z = ap length (after-candidate p y (candidate_in c) (ap (line_in ws ps) e)).parts in omega arith
+
+-- in front of a line that begins with the letter of a key
+
+keyed_front : (b : List ℕ) → keyed b ≡ true → keyed (before 10 b) ≡ true
+keyed_front [] e = never e
+keyed_front (c ∷ b) e =
+    let n : c ≡ 10 → ⊥ = λ z. never (rw z at e) in
+    ap keyed (before-skip 10 c b n) ∙ e
+
+no_candidates : (r : Request) (o : Option Rest) {q : Rest} → request_then r o ≡ some q → q.candidates ≡ []
+no_candidates r none e = never (ap is_some e)
+no_candidates r (some z) {q} e = by (falls r.key z.table) e
+  where
+    same : {m n : Rest} → some m ≡ some n → m ≡ n
+    same e = cc
+
+    by : (t : Bool) → (if t then none else some (record { candidates = []; table = with_candidates z.candidates r ∷ z.table })) ≡ some q → q.candidates ≡ []
+    by true d = never (ap is_some d)
+    by false d = sym (ap (λ (x : Rest). x.candidates) (same d))
+
+module _ {b : List ℕ} {at : ℕ} {q : Rest} (y : Body b at q) (h : at < length b) (k : keyed (drop at b) ≡ true) where
+  keyed_line_left : (l : List ℕ) → l ≡ before 10 (drop at b) → (o : Option (List Line)) → one_more (line_of short (fields l)) o ≡ some y.lines → q.candidates ≡ []
+  unfolding rest_of
+  keyed_line_left l g o e =
+      let d = parted (line_of short (fields l)) o e in
+      by d.first d.others d.is (ap rest_of (sym d.parts) ∙ y.list)
+    where
+      by : (x : Line) (ls : List Line) → line_of short (fields l) ≡ some x → rest_of (x ∷ ls) ≡ some q → q.candidates ≡ []
+      by (HeadLine s) ls i r = never (ap is_some r)
+      by (RequestLine z) ls i r = no_candidates z (rest_of ls) r
+      by (CandidateLine c) ls i r = absurd (keyed-no-candidate l (ap keyed g ∙ keyed_front (drop at b) k) c i)
+
+  keyed_left : q.candidates ≡ []
+  keyed_left =
+      let end : ℕ = at + length (before 10 (drop at b)) in
+      elim (test (eqb end (length b))) [
+        | inl t ↦ never (ap is_some (sym (no_end b at h refl (eqb-true end (length b) t) none) ∙ y.are))
+        | inr t ↦
+            let n = eqb-false end (length b) t in
+            let m : end < length b = omega (arith, before-length 10 (drop at b), length-drop at b) in
+            let z : end - at ≡ length (before 10 (drop at b)) = omega arith in
+            keyed_line_left (take (end - at) (drop at b)) (ap (λ (i : ℕ). take i (drop at b)) z ∙ take-before 10 (drop at b)) (lines_of_text (drop (end + 1) b))
+            (sym (line-ends b at h refl m) ∙ y.are)
+      ]
+
+pub keyed_next : {b : List ℕ} {at : ℕ} → keyed (drop at b) ≡ true → NextCandidate b at None at
+keyed_next {b} {at} k = record { takes = tt; stays = λ d. record { stays = refl; is = λ q y. by q y } }
+  where
+    by : (q : Rest) → Body b at q → q.candidates ≡ []
+    by q y = elim (test (ltb at (length b))) [
+      | inl t ↦ keyed_left y (ltb-true at (length b) t) k
+      | inr t ↦ never (ap keyed (sym (drop_of_length-le b (ltb-false at (length b) t))) ∙ k)
+    ]
 
 -- behind the last line
 

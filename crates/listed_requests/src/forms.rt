@@ -5,11 +5,14 @@ ghost use Rattle.listed_requests.specs.Given.{NextCandidate, NextRequest};
 use listed_lines::cursor::{Lines, Lists};
 use listed_lines::line::{Candidate, Line, Request};
 
-// The candidate whose line comes next. Where none comes, no line is taken.
+// The candidate whose line comes next. Where none comes, no line is taken; a request's line, which may be long, is not read for it.
 pub fn next_candidate(lines: &mut Lines, lists: &mut Lists) -> Option<Candidate>
     ensures same { lines.new.text ≡ lines.old.text }
     ensures next { NextCandidate lines.old.text.now lines.old.at result lines.new.at }
 {
+    if lines.meets_request() {
+        return None;
+    }
     let mut after = *lines;
     let line = after.next(lists)?;
     let Line::Candidate(c) = line else {

@@ -1,8 +1,9 @@
-pub mod Marking
 pub mod Starting
+pub mod Marking
 pub mod Waiting
 pub mod Spent
 pub mod SpentStill
 pub mod Supplying
 pub mod Deferred
 pub mod NextParent
+pub mod Listing

@@ -23,12 +23,11 @@ use Rattle.package_stages.specs.Records.{place_hashes}
 use Rattle.apart.specs.Bare.{bare, bare_state}
 use Rattle.apart.specs.declared.lapsing.Progress.{Progress}
 use Rattle.apart.specs.Apart.{Slot, resting, plain, Clear, ClearFrom, Apart, Parted, Rested}
-use Rattle.apart.specs.Noting.{Spent, Exhausted}
+use Rattle.parenting.specs.Displacing.{Spent, Exhausted}
 use Rattle.apart.specs.Lapsing.{noted, ClearAt, Expires}
 use Rattle.apart.proofs.SlotWords.{plain-long, plain_rest}
-use Rattle.apart.proofs.BareTable.{sound-bare}
+use Rattle.apart.proofs.BareTable.{victims-bare, sound-bare}
 use Rattle.apart.proofs.OneOwner.{noted_none}
-use Rattle.apart.proofs.SpentStill.{victims-bare}
 use Rattle.failing.proofs.Leaving.{told}
 use Rattle.planning.specs.Expiring.{expire_one, due_from, DueNext, ExpiresAll}
 use Rattle.planning.proofs.BareDue.{due_from_bare}

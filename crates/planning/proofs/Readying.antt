@@ -24,7 +24,7 @@ use Rattle.requests.specs.Changes.{Makes, Tells}
 use Rattle.handing.specs.Hands.{readied}
 use Rattle.handing.proofs.GivingBack.{shrinks_ready}
 use Rattle.apart.specs.Apart.{at_rest, resting}
-use Rattle.apart.specs.Silent.{readied_both, ready_each, dropped_all, silenced, Placeless}
+use Rattle.apart.specs.Silent.{readied_both, ready_each, dropped_all, silenced, Placeless, Unburdened}
 use Rattle.apart.proofs.Dropping.{Keyed, due-keyed}
 use Rattle.apart.proofs.OneOwner.{noted_none}
 use Rattle.apart.proofs.Silence.{silent_is, silent-apart, placeless_each}
@@ -126,10 +126,15 @@ made_ready {b} {b'} {now} w m = record { sound = λ st s. sound_each now (due no
 
 -- ---- all
 
-pub made_silent : {b b₁ b₂ : List ℕ} {now : ℕ} → MadeReady b b₁ now → Makes b₁ b₂ Placeless (dropped_all now) → Makes b b₂ Placeless (silenced now)
+unburdened : (now : ℕ) (t : Table) → Placeless t → Unburdened now t
+unburdened now [] p = tt
+unburdened now (r ∷ t) p = (λ _. p.0, unburdened now t p.1)
+
+pub made_silent : {b b₁ b₂ : List ℕ} {now : ℕ} → MadeReady b b₁ now → Makes b₁ b₂ (Unburdened now) (dropped_all now) → Makes b b₂ Placeless (silenced now)
 made_silent {now = now} x m st s g p =
     let t = st.table in
-    m (on_table (ready_each now (due now t) t) st) (x.sound st s) (x.table st s g tt) (placeless_each now (due now t) t (due-keyed now 0 t s.bounded.ordered) s.bounded.ordered p)
+    m (on_table (ready_each now (due now t) t) st) (x.sound st s) (x.table st s g tt)
+    (unburdened now (ready_each now (due now t) t) (placeless_each now (due now t) t (due-keyed now 0 t s.bounded.ordered) s.bounded.ordered p))
 
 -- no places: nothing is noted
 pub all_silent : {b b' f v : List ℕ} {m c now : ℕ} → now < word → c ≡ 0 → length v ≡ length (take m b) → Makes (take m b) v Placeless (silenced now)

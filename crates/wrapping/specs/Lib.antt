@@ -1,3 +1,4 @@
 pub mod Wraps
 pub mod Batches
 pub mod Swaps
+pub mod Lapses

@@ -7,6 +7,7 @@ ghost use Rattle.machine.specs.Wrapper as machine;
 ghost use Rattle.store.specs.Shown.{Kept};
 ghost use Rattle.requests.specs.Changes.{Makes};
 
+pub mod lapsing;
 pub mod missing;
 pub mod offering;
 

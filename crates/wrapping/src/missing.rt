@@ -3,22 +3,33 @@
 //
 // s, n, items, clock and out are arguments of their own, as document 01's call gives them: no step keeps them, and a struct of them would hold
 // the lends of both the store and the answer, to be taken apart in each step.
-ghost use Rattle.std.specs.Prelude.{◌+◌, ◌*◌, ◌≤◌, length};
+ghost use Rattle.std.specs.Prelude.{◌≡◌, ◌+◌, ◌*◌, ◌≤◌, length, true};
 ghost use Rattle.std.proofs.Math.Option.{some};
 ghost use Rattle.ident.specs.Words.{key_num, item_num};
-ghost use Rattle.machine.specs.Limits.{max_parents};
+ghost use Rattle.machine.specs.Limits.{max_parents, msg_anc_pkg_info};
 ghost use Rattle.machine.specs.Call.{key_bytes};
 ghost use Rattle.machine.specs.Wrapper as machine;
+ghost use Rattle.machine.specs.Wrapper.{is_type};
 ghost use Rattle.store.specs.Shown.{places_in, Kept};
 ghost use Rattle.lent_lists.specs.Items.{items_in};
 ghost use Rattle.announcing.specs.Answers.{KeysListed};
+ghost use Rattle.requests.specs.Changes.{Tells};
 ghost use Rattle.wrapping.specs.Wraps.{Roomy, info_listed};
+ghost use Rattle.wrapping.specs.Lapses.{Timely, all_keyed};
 
+use crate::lapsing;
 use ident::connection::Connection;
 use lent_lists::KEY;
 
 // The item type of package information (BIP 331).
 const MSG_ANCPKGINFO: u32 = 7;
+
+// Whether an item is package information.
+fn is_info(item: ident::Item) -> bool
+    ensures { result ≡ is_type msg_anc_pkg_info item.kind }
+{
+    item.kind == ident::ItemKind::Other(MSG_ANCPKGINFO)
+}
 
 // failed, and the key listed in `out` if it was carried out. Answers how many keys these are.
 fn fail_listed(s: &mut [u8], k: ident::Key, n: u64, clock: u64, out: &mut [u8]) -> usize
@@ -54,7 +65,7 @@ fn not_found_one(
     requires { Kept s.old × Roomy s.old out.old }
     ensures { KeysListed s.old s.new out.old out.new result (λ m t. machine.not_found_one m n.number clock (item_num item) t) }
 {
-    if item.kind == ident::ItemKind::Other(MSG_ANCPKGINFO) {
+    if is_info(item) {
         let k = ident::Key::from(ident::Wtxid(item.hash));
         return fail_info(s, k, n, clock, out);
     }
@@ -64,15 +75,8 @@ fn not_found_one(
     }
 }
 
-// The items that the connection n does not have, one after the other, up to their packages. Lists in `out` the keys of what failed, and
-// answers how many these are.
-pub fn not_found_each(
-    s: &mut [u8],
-    n: Connection,
-    items: &[u8],
-    clock: u64,
-    out: &mut [u8],
-) -> usize
+// The items one after the other, each by itself. Lists in `out` the keys of what failed, and answers how many these are.
+fn fail_in_turn(s: &mut [u8], n: Connection, items: &[u8], clock: u64, out: &mut [u8]) -> usize
     requires { Kept s.old × (key_bytes * (length (items_in items.now) + max_parents * places_in s.old) ≤ length out.old) }
     ensures { KeysListed s.old s.new out.old out.new result (λ m t. machine.not_found_each m n.number clock (items_in items.now) t) }
 {
@@ -87,8 +91,56 @@ pub fn not_found_each(
     kept
 }
 
+// ---- requests that fail together
+
+// So few requests go one by one: two passes over the rows cost more.
+const FEW: usize = 4;
+
+// Whether an item is none of package information.
+fn all_keyed(items: &[u8]) -> bool
+    ensures { result ≡ all_keyed (items_in items.now) }
+{
+    (0..lent_lists::items(items)).all(|i| !is_info(lent_lists::item_at(items, i)))
+}
+
+// Whether the requests of n that fail may go together: more than a few can be among the items, none of which is package information, whose
+// parents come in at once; and no owner has the deadline of those that wait.
+fn may_wait(s: &[u8], n: u64, items: &[u8]) -> bool
+    requires { Kept s.now }
+    ensures { result ≡ true → (all_keyed (items_in items.now) ≡ true) × Tells s.now Timely }
+{
+    if lent_lists::items(items) <= FEW {
+        return false;
+    }
+    if requests::figures(s, n).owned <= FEW as u64 {
+        return false;
+    }
+    all_keyed(items) && lapsing::timely(s)
+}
+
+// The items that the connection n does not have, up to their packages. Lists in `out` the keys of what failed, and answers how many
+// these are.
+pub fn not_found_each(
+    s: &mut [u8],
+    n: Connection,
+    items: &[u8],
+    clock: u64,
+    out: &mut [u8],
+) -> usize
+    requires { Kept s.old × (key_bytes * (length (items_in items.now) + max_parents * places_in s.old) ≤ length out.old) }
+    ensures { KeysListed s.old s.new out.old out.new result (λ m t. machine.not_found_each m n.number clock (items_in items.now) t) }
+{
+    if !may_wait(s, n.number, items) {
+        return fail_in_turn(s, n, items, clock, out);
+    }
+    let kept = lapsing::lapse_each(s, n.number, items, clock, out);
+    apart::silent::drop_due(s, 0);
+    kept
+}
+
 // The items that the connection n does not have, then the claims of n to the packages among them. Lists in `out` the keys of what failed,
-// and behind each its parents' keys where it has some; answers how many these are.
+// and behind each its parents' keys where it has some; answers how many these are. Nothing fails that n does not own, so that no item is
+// looked at if n owns nothing.
 pub fn transaction_not_found(
     s: &mut [u8],
     n: Connection,
@@ -99,6 +151,9 @@ pub fn transaction_not_found(
     requires { Kept s.old × (key_bytes * (length (items_in items.now) + max_parents * places_in s.old) ≤ length out.old) }
     ensures { KeysListed s.old s.new out.old out.new result (λ m t. machine.not_found m n.number clock (items_in items.now) t) }
 {
+    if requests::figures(s, n.number).owned == 0 {
+        return 0;
+    }
     let kept = not_found_each(s, n, items, clock, out);
     let a = kept * KEY;
     let c = claims::waiting::packages_not_found(s, n, items, clock, &mut out[a..]);

@@ -1,15 +1,18 @@
 -- `listed_counts::count_lines` meets its contract. The loop's invariant: what is left of the lines, from the counts as they are, comes to the same as all of them.
 use Prim.Native.Nat.{◌-◌, ◌≤◌}
 use mathlib.Core.Path.{◌≡◌}
+use mathlib.Core.Bool.{true, false}
 use lib.ListN.{length}
 use Rattle.heavy.specs.Counters.{names_in, counts_in, sum}
 use Rattle.listed_counts.proofs.Lines.{Counting}
 use Rattle.listed_counts.proofs.count_lines.Given as goal
 
-abbrev pub invariant-loop-line : goal.invariant-loop-line
-invariant-loop-line g l =
-    (l.lines.text ≡ l.initial.lines.text) × (names_in l.counters ≡ names_in l.initial.counters) × (sum (counts_in l.counters) ≤ l.lines.at)
-    × Counting l.lines.text.now l.initial.lines.at g.N.Counted.owners (names_in l.initial.counters) (counts_in l.initial.counters) l.lines.at (counts_in l.counters)
+abbrev pub invariant-loop-front : goal.invariant-loop-front
+invariant-loop-front l =
+    (l.lines.text ≡ l.initial.lines.text) × (names_in l.connections ≡ names_in l.initial.connections) × (names_in l.owners ≡ names_in l.initial.owners)
+    × (sum (counts_in l.connections) ≤ l.lines.at) × (sum (counts_in l.owners) ≤ l.lines.at)
+    × Counting l.lines.text.now l.initial.lines.at false (names_in l.initial.connections) (counts_in l.initial.connections) l.lines.at (counts_in l.connections)
+    × Counting l.lines.text.now l.initial.lines.at true (names_in l.initial.owners) (counts_in l.initial.owners) l.lines.at (counts_in l.owners)
 
-abbrev pub decreases-loop-line : goal.decreases-loop-line
-decreases-loop-line g l = length l.lines.text.now - l.lines.at
+abbrev pub decreases-loop-front : goal.decreases-loop-front
+decreases-loop-front l = length l.lines.text.now - l.lines.at

@@ -4,18 +4,29 @@ use native.Mathlib.Omega.{arith}
 use Rattle.heavy.specs.Counters.{names_in, counts_in}
 use Rattle.heavy.proofs.Seeking.{length-names, length-counts}
 use Rattle.listed_counts.proofs.Numbers.{sum-noted}
-use Rattle.listed_counts.proofs.Lines.{note_on, note_end}
+use Rattle.listed_counts.proofs.Lines.{note-begin, note_on, note_end}
 use Rattle.listed_counts.proofs.note_lines.Goals as goal
 
-pub loop-line-preserved : goal.loop-line-preserved
-loop-line-preserved g c =
-    let l = c.in-Some.ensures.line in
+pub loop-front-init : goal.loop-front-init
+loop-front-init c = (refl, omega (arith, c.requires.0), omega (arith, c.requires.1), note-begin, note-begin)
+
+pub loop-front-preserved : goal.loop-front-preserved
+loop-front-preserved c =
+    let l = c.in-Some.ensures.front in
     let e = c.in-Some.ensures.same in
-    let same = length-names c.loop-line.counters ∙ sym (length-counts c.loop-line.counters) in (
-      e ∙ c.loop-line.invariant.0,
-      omega (arith, sum-noted (names_in c.loop-line.counters) (counts_in c.loop-line.counters) same c.note_number.ensures, c.loop-line.invariant.1, l.on),
-      rw e (note_on c.loop-line.invariant.2 l c.number_of.ensures c.note_number.ensures),
+    let i = c.loop-front.invariant in
+    let cs = c.loop-front.connections in
+    let os = c.loop-front.owners in
+    let n = c.note_front.ensures in (
+      e ∙ i.0,
+      omega (arith, sum-noted (names_in cs) (counts_in cs) (length-names cs ∙ sym (length-counts cs)) n.connections, i.1, l.on),
+      omega (arith, sum-noted (names_in os) (counts_in os) (length-names os ∙ sym (length-counts os)) n.owners, i.2, l.on),
+      rw e (note_on i.3 l n.connections),
+      rw e (note_on i.4 l n.owners),
     )
 
-pub returns : goal.returns
-returns g c = rw (← c.loop-line.invariant.0) (note_end c.loop-line.invariant.2 (c.in_default.ensures.none refl).0)
+pub returns-clause-connections : goal.returns-clause-connections
+returns-clause-connections c = rw (← c.loop-front.invariant.0) (note_end c.loop-front.invariant.3 (c.in_default.ensures.none refl))
+
+pub returns-clause-owners : goal.returns-clause-owners
+returns-clause-owners c = rw (← c.loop-front.invariant.0) (note_end c.loop-front.invariant.4 (c.in_default.ensures.none refl))

@@ -1,37 +1,22 @@
 -- `announcing::parents::announce_parents` meets its contract.
-use Prim.Native.Nat.{ℕ, ◌<◌}
-use mathlib.Core.Path.{◌≡◌, refl, sym, ap, ◌∙◌}
-use mathlib.Core.Bool.{Bool, false}
-use mathlib.Core.List.{List}
+use Prim.Native.Nat.{◌<◌}
+use mathlib.Core.Path.{refl, sym, ◌∙◌}
 use native.Mathlib.Omega.{arith}
 use lib.ListN.{length}
-use Rattle.ident.specs.Number.{Key, txid}
-use Rattle.words.specs.Words.{splice}
 use Rattle.machine.specs.Limits.{word}
-use Rattle.machine.specs.Claim.{elem}
-use Rattle.machine.specs.Step.{key_answer}
 use Rattle.machine.proofs.Fail.{Peer, FewHashes}
 use Rattle.lent_lists.specs.Lists.{hashes_in}
-use Rattle.announcing.proofs.Listing.{turned_start, turned_as, turned_repeat, turned_kept, turned_left, turned_more}
+use Rattle.announcing.proofs.Listing.{absent, keyed, turned_start, turned_as, turned_repeat, turned_kept, turned_left, turned_more, one_written}
 use Rattle.announcing.proofs.Lent.{few_hashes, peer_of}
 use Rattle.announcing.proofs.parents.announce_parents.Goals as goal
 use Rattle.announcing.proofs.parents.announce_parents.Goals.{then-not-occurs_before, then-announce_parent, else-announce_parent, else-not-occurs_before}
 
--- a hash that did not occur, as the code answers it
-absent : {r : Bool} {x y : ℕ} (l : List ℕ) → r ≡ false → r ≡ elem y l → x ≡ y → elem x l ≡ false
-absent l t e q = ap (λ (z : ℕ). elem z l) q ∙ sym e ∙ t
-
--- the parent's key is written, as the code makes it
-keyed : {k : Key} {h : ℕ} (a : ℕ) (u : List ℕ) {u₁ : List ℕ} → k ≡ txid h → u₁ ≡ splice u a (key_answer k) → u₁ ≡ splice u a (key_answer (txid h))
-keyed a u q e = e ∙ ap (λ (j : Key). splice u a (key_answer j)) q
-
 pub loop-i-init : goal.loop-i-init
-loop-i-init c = turned_start _ _ _ _ _
+loop-i-init c = turned_start _ _ _ _ _ (λ st g w. w)
 
 pub announce_parent-requires : goal.announce_parent-requires
 announce_parent-requires c = (turned_kept c.loop-i.invariant
-    (omega (arith, c.loop-i-test.true, c.hashes-count.ensures)) _
-    c.hash_in-h.ensures (peer_of c.args.n (omega arith)) (omega arith) (few_hashes c.args.parents.now c.type_inv.parents c.requires.1) c.requires.0)
+    (omega (arith, c.loop-i-test.true, c.hashes-count.ensures)) (peer_of c.args.n (omega arith)) (omega arith) (few_hashes c.args.parents.now c.type_inv.parents c.requires.1) c.requires.0)
 
 pub loop-i-preserved : goal.loop-i-preserved
 loop-i-preserved c =
@@ -48,10 +33,10 @@ loop-i-preserved c =
             | then-announce_parent z ↦
                 turned_as w.s-is (w.out-is ∙ z.out-is) (w.kept-is ∙ z.kept-is) w.priority-is
                 (turned_more v inside _ w.hash_in-h.ensures peer late few new
-                w.announce_parent.auto.s w.announce_parent.ensures z.if-announce_parent.true c.requires.2 (keyed _ _ z.from.ensures z.put_key.ensures))
+                (one_written w.announce_parent.ensures) z.if-announce_parent.true c.requires.2 (keyed _ _ z.from.ensures z.put_key.ensures))
             | else-announce_parent z ↦
                 turned_as w.s-is (w.out-is ∙ z.out-is) (w.kept-is ∙ z.kept-is) w.priority-is
-                (turned_left v inside _ w.hash_in-h.ensures peer late few new w.announce_parent.auto.s w.announce_parent.ensures z.if-announce_parent.false)
+                (turned_left v inside _ w.hash_in-h.ensures peer late few new (one_written w.announce_parent.ensures) z.if-announce_parent.false)
           ]
       | else-not-occurs_before w ↦
           turned_as w.s-is w.out-is w.kept-is w.priority-is

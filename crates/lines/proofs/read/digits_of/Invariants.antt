@@ -7,4 +7,4 @@ abbrev pub invariant-loop-c : goal.invariant-loop-c
 invariant-loop-c g l =
     (0 < l.first → 0 < g.N.Numeral.number l.n)
     × (l.first ≡ 0 → g.N.Numeral.number l.n ≡ 0)
-    × (numeral_of g.N.Numeral.base g.N.Numeral.limit l.f ≡ further g.N.Numeral.base g.N.Numeral.limit (g.N.Numeral.number l.n) (drop l.c-index l.rest))
+    × (numeral_of 10 g.N.Numeral.limit l.f ≡ further 10 g.N.Numeral.limit (g.N.Numeral.number l.n) (drop l.c-index l.rest))

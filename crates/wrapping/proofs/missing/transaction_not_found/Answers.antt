@@ -5,6 +5,7 @@ use native.Mathlib.Omega.{arith}
 use Rattle.machine.specs.Call.{key_bytes}
 use Rattle.lent_lists.specs.Items.{items_in}
 use Rattle.wrapping.proofs.Asked.{asked_of}
+use Rattle.wrapping.proofs.Idle.{idle_listed}
 use Rattle.wrapping.proofs.Packaged.{items_kept, items-within, packages-room, packages-listed, packages-within}
 use Rattle.wrapping.proofs.missing.transaction_not_found.Goals as goal
 
@@ -59,3 +60,8 @@ returns c =
     let long = c.not_found_each-kept.auto.out in
     let from : c.not_found_each-kept.result * key_bytes ≡ key_bytes * c.not_found_each-kept.result = omega arith in
     packages-listed (items_in a.items.now) v long q c.requires.0 c.requires.1 from refl c.packages_not_found-c.ensures
+
+pub returns-then-figures-eq0 : goal.returns-then-figures-eq0
+returns-then-figures-eq0 c =
+    let a = c.args in
+    idle_listed a.n.number a.clock (items_in a.items.now) (λ st s w. omega (arith, (c.figures.ensures st s w).owned, c.if-figures-eq0.true))
