@@ -88,14 +88,6 @@ pub fn victim_in(s: &[u8], h: ident::Hash, w: windows::Windows) -> Option<region
     greatest_in(s, w.wtxid, victim)
 }
 
-// The victim at a hash, under either kind.
-pub fn victim_at(s: &[u8], h: ident::Hash) -> Option<regions::Row>
-    requires { Kept s.now }
-    ensures { Tells s.now (λ t. found result ≡ machine.greatest (machine.victims (machine.at_hash (hash_num h)) t)) }
-{
-    victim_in(s, h, windows::windows_of(s, h))
-}
-
 // The victim of the whole table.
 #[tactic(auto, using(crate::proofs::Lent::kept_long, requests::proofs::Keeping::kept_shown))]
 pub fn victim_anywhere(s: &[u8]) -> Option<regions::Row>
