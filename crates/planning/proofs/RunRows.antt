@@ -2,32 +2,30 @@
 use Prim.Native.Nat.{ℕ, suc, ◌+◌, ◌≤◌, ◌<◌}
 use mathlib.Core.Path.{◌≡◌, refl, sym, ap, subst, ◌∙◌}
 use mathlib.Core.Logic.{inl, inr}
-use mathlib.Core.Bool.{Bool, true, false, ◌&&◌, and-false}
+use mathlib.Core.Bool.{Bool, false, and-false}
 use mathlib.Core.List.{List, [], ◌∷◌, ◌++◌}
 use native.Mathlib.Omega.{arith}
 use lib.Dec.{leb, ltb}
 use lib.ListN.{length, take, drop, get_or, length-map, length-drop, length-take}
 use lib.Seq.{get_or-take, get_or-drop}
 use borrow.Author.Tests.{leb-true, leb-false, le-leb, lt-leb, lt-ltb, le-ltb}
-use Rattle.ident.specs.Number.{Key, place}
+use Rattle.ident.specs.Number.{place}
 use Rattle.regions.specs.declared.Row.{Row}
 use Rattle.regions.specs.Regions.{each}
 use Rattle.regions.specs.Order.{Bound}
 use Rattle.regions.specs.Rows.{key_number, key_of}
 use Rattle.machine.specs.Limits.{word}
-use Rattle.machine.specs.State.{Table, State, on_table}
+use Rattle.machine.specs.State.{State, on_table}
 use Rattle.machine.specs.Sound.{Sound}
 use Rattle.machine.proofs.Tests.{test}
 use Rattle.store.specs.Flat.{rows_of}
 use Rattle.store.specs.Gather.{key_at}
 use Rattle.store.specs.Image.{Writes}
-use Rattle.store.specs.Shown.{rows_in, row_numbers, Kept}
-use Rattle.store.proofs.Frame.{sizes}
+use Rattle.store.specs.Shown.{row_numbers, Kept}
 use Rattle.store.proofs.Keys.{row_number}
 use Rattle.announcing.specs.Drops.{kept_row}
 use Rattle.announcing.proofs.DroppingRows.{row_stays}
 use Rattle.apart.specs.Bare.{bare_state}
-use Rattle.apart.specs.Apart.{Parted}
 use Rattle.apart.specs.Silent.{within, dropped_by, is_due, due_row, TestsIn, Tested, DropsIn}
 use Rattle.apart.proofs.Overdue.{front_is, rest_stays}
 use Rattle.apart.proofs.OneOwner.{front_within}

@@ -1,26 +1,24 @@
 -- The owners that are due from a place on are those of a run and those behind it; where a run has failed, those behind it are left to expire.
-use Prim.Native.Nat.{ℕ, suc, ◌≤◌, ◌<◌}
+use Prim.Native.Nat.{ℕ, suc, ◌≤◌}
 use mathlib.Core.Path.{◌≡◌, refl, sym, ap, ◌∙◌}
 use mathlib.Core.Logic.{inl, inr}
-use mathlib.Core.Bool.{Bool, true, false, ◌&&◌, and-false}
+use mathlib.Core.Bool.{Bool, false, ◌&&◌, and-false}
 use mathlib.Core.List.{List, [], ◌∷◌, ◌++◌, append_assoc, append_cancel_right}
 use native.Mathlib.Omega.{arith}
 use lib.Dec.{leb, ltb}
 use borrow.Author.Tests.{ltb-true, ltb-false, leb-false, le-ltb, le-leb, lt-leb}
-use Rattle.std.specs.Prelude.{if◌then◌else◌}
-use Rattle.ident.specs.Number.{top, Key, place}
+use Rattle.ident.specs.Number.{Key, place}
 use Rattle.machine.specs.Limits.{Limits}
-use Rattle.machine.specs.State.{Request, Table}
-use Rattle.machine.specs.Table.{at}
+use Rattle.machine.specs.State.{Table}
 use Rattle.machine.specs.Fail.{Listed}
 use Rattle.machine.specs.Plan.{Due, due_of, expire}
-use Rattle.machine.specs.Sound.{Ordered, Bounded}
+use Rattle.machine.specs.Sound.{Ordered}
 use Rattle.machine.proofs.Alone.{Hold}
 use Rattle.machine.proofs.Tests.{test, and_right}
 use Rattle.apart.specs.Silent.{within, due_by, fail_each}
 use Rattle.apart.proofs.Dropping.{by_each}
 use Rattle.apart.proofs.InTurn.{Went}
-use Rattle.planning.specs.Expiring.{due_here, due_from, due_run}
+use Rattle.planning.specs.Expiring.{due_from, due_run}
 use Rattle.planning.proofs.Overdue.{due_whole, due_same, Expiring}
 
 none_behind : (now x y lo : ℕ) (t : Table) → y ≤ lo → Ordered lo t → due_run now x y t ≡ []
