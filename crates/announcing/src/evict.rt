@@ -9,8 +9,10 @@ ghost use Rattle.store.specs.Gather.{key_at};
 ghost use Rattle.store.specs.Image.{Shows};
 ghost use Rattle.store.specs.Shown.{rows_in, Shown, Kept};
 ghost use Rattle.requests.specs.Changes.{Tells};
+ghost use Rattle.requests.specs.Windows.{Windowed};
 ghost use Rattle.announcing.specs.Evicts.{entry_at, found, is_lower, key_after, protected, or_row, greatest_over, part};
 
+use requests::windows;
 use store::rows::Window;
 
 // Whether a row's bits say that its candidate is preferred, or owns its request. (Of the bits, of which any may be given: a row's methods would ask for
@@ -76,24 +78,14 @@ fn greatest_in(s: &[u8], w: Window, best: Option<regions::Row>) -> Option<region
     greatest
 }
 
-// The victim at a hash, under either kind.
+// The victim at a hash, whose rows are those of w, under either kind.
 #[tactic(auto, using(requests::proofs::Keeping::kept_shown))]
-pub fn victim_at(s: &[u8], h: ident::Hash) -> Option<regions::Row>
-    requires { Kept s.now }
+pub fn victim_in(s: &[u8], h: ident::Hash, w: windows::Windows) -> Option<regions::Row>
+    requires { Kept s.now × Windowed s.now (hash_num h) w }
     ensures { Tells s.now (λ t. found result ≡ machine.greatest (machine.victims (machine.at_hash (hash_num h)) t)) }
 {
-    let a = regions::Key::from(ident::Key {
-        kind: ident::Kind::Txid,
-        hash: h,
-    });
-    let b = regions::Key::from(ident::Key {
-        kind: ident::Kind::Wtxid,
-        hash: h,
-    });
-    let x = requests::window_of(s, a);
-    let y = requests::window_of(s, b);
-    let victim = greatest_in(s, x, None);
-    greatest_in(s, y, victim)
+    let victim = greatest_in(s, w.txid, None);
+    greatest_in(s, w.wtxid, victim)
 }
 
 // The victim of the whole table.

@@ -50,7 +50,7 @@ gone-ready n now r = ap (λ (cs : List Candidate). with_candidates cs (unowned r
 ready_none : (now : ℕ) → GivesNone (readied now)
 ready_none now r e = ap (map (ready_at now)) e
 
-gone_none : (n : ℕ) → GivesNone (gone n)
+pub gone_none : (n : ℕ) → GivesNone (gone n)
 unfolding without
 gone_none n r e = ap (without n) e
 

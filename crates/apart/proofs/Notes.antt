@@ -94,7 +94,7 @@ unfolding hashes_at
 hashes-long w j zero = refl
 hashes-long w j (suc n) = ap suc (hashes-long w (suc j) n)
 
-pub hashes-parts : (w : List ℕ) (j a b : ℕ) → hashes_at w j (a + b) ≡ hashes_at w j a ++ hashes_at w (j + a) b
+hashes-parts : (w : List ℕ) (j a b : ℕ) → hashes_at w j (a + b) ≡ hashes_at w j a ++ hashes_at w (j + a) b
 unfolding hashes_at
 hashes-parts w j zero b = let e : 0 + b ≡ b = omega arith in rw (e, add-zero)
 hashes-parts w j (suc a) b =

@@ -38,7 +38,7 @@ fn hand_on(s: &mut [u8], k: ident::Key, clock: u64)
         let mut list = [0; LIST];
         let parents = failing::parents::parents_for(s, k, n, &mut list);
         let mut kept = [0; KEYS];
-        announcing::parents::announce_parents(s, n, clock, parents, &mut kept);
+        parenting::listed::announce_parents(s, n, clock, parents, &mut kept);
     }
 }
 

@@ -177,7 +177,7 @@ fn announce_behind(
     ensures { KeysListed s.old s.new out.old out.new result (λ m t. led (key_num k) (machine.announce_parents m n.number clock (hashes_in list.now) t)) }
 {
     lent_lists::put_key(out, 0, k);
-    let c = announcing::parents::announce_parents(s, n, clock, list, &mut out[KEY..]);
+    let c = parenting::listed::announce_parents(s, n, clock, list, &mut out[KEY..]);
     c + 1
 }
 

@@ -1,7 +1,8 @@
 -- Rows that wait in a region of their own, beside the store, and what comes of an announcement beside them.
-use Rattle.std.specs.Prelude.{ℕ, ◌+◌, ◌≤◌, ◌<◌, ◌≡◌, Bool, false, ◌||◌, List, [], ◌∷◌, ◌++◌, eqb, length, ⊤}
+use Rattle.std.specs.Prelude as std
+use Rattle.std.specs.Prelude.{ℕ, ◌+◌, ◌≤◌, ◌<◌, ◌≡◌, Bool, true, false, ◌||◌, List, [], ◌∷◌, ◌++◌, eqb, length, ⊤, Some, None, Result, Ok, Err}
 use Rattle.std.proofs.Math.Option.{Option, some}
-use Rattle.ident.specs.Number.{Key}
+use Rattle.ident.specs.Number.{Key, place}
 use Rattle.regions.specs.declared.Row.{Row}
 use Rattle.regions.specs.Order.{Sorted}
 use Rattle.regions.specs.Regions.{Holds}
@@ -15,6 +16,10 @@ use Rattle.machine.specs.Typed.{Each}
 use Rattle.store.specs.Flat.{row_of}
 use Rattle.store.specs.Image.{Writes}
 use Rattle.store.specs.Shown.{row_numbers}
+use Rattle.store.specs.declared.rows.Window.{Window}
+use Rattle.requests.specs.declared.windows.Windows.{Windows}
+use Rattle.requests.specs.Changes.{Spans}
+use Rattle.requests.specs.Windows.{Windowed}
 use Rattle.gathering.specs.declared.beside.Fare.{Fare}
 use Rattle.gathering.specs.declared.beside.Fare.TheVariants.{Nothing, Waits, Alone}
 use Rattle.gathering.specs.Merges.{number_of, placed, gathered}
@@ -63,6 +68,11 @@ WaitsAt w m h r = (n : ℕ) (t : Table) → Ordered 0 t → Beside w m n t (λ e
 abbrev pub BarredIn : List ℕ → List ℕ → ℕ → Key → ℕ → Bool → Type 0
 BarredIn b w m k n r = (st : State) → Sound st → Writes b st → Beside w m n st.table (λ es. r ≡ barred_beside es k n st.table)
 
+-- r are the rows of this key's hash, unless the connection n may not announce at it
+abbrev pub OpenIn : List ℕ → List ℕ → ℕ → Key → ℕ → std.Option Windows → Type 0
+OpenIn b w m k n None = BarredIn b w m k n true
+OpenIn b w m k n (Some x) = BarredIn b w m k n false × Windowed b k.hash x
+
 -- ---- an announcement beside those that wait
 
 -- c comes in at k behind es, since nothing bars it and nothing has to give way
@@ -83,6 +93,11 @@ Fares m t es k c Alone = ⊤
 pub record FaresIn (b w : List ℕ) (m : ℕ) (k : Key) (c : Candidate) (r : Fare) : Type 0 where
   pub spare : r ≡ Waits → m < space
   pub fares : (st : State) → Sound st → Writes b st → Beside w m c.connection st.table (λ es. Fares (limits_of st) st.table es k c r)
+
+-- P says how an announcement at this key fares: where it waits, among which rows of the key
+abbrev pub RowsOrFare : List ℕ → Key → (Fare → Type 0) → Result Window Fare → Type 0
+RowsOrFare b k P (Ok x) = P Waits × Spans b (place k) x.from x.to
+RowsOrFare b k P (Err r) = P r × (r ≡ Waits → ⊥)
 
 -- the row of a candidate that is to wait
 abbrev pub RowIn : List ℕ → Key → Candidate → Row → Type 0

@@ -9,7 +9,7 @@ ghost use Rattle.regions.specs.Rows.{row_size};
 ghost use Rattle.store.specs.Shown.{Kept};
 ghost use Rattle.requests.specs.Changes.{candidate_of};
 ghost use Rattle.announcing.specs.Falls.{list_space};
-ghost use Rattle.gathering.specs.Aside.{space};
+ghost use Rattle.gathering.specs.Aside.{space, RowsOrFare};
 ghost use Rattle.gathering.specs.Deferring.{ListedAt, SuitedIn, Deferred};
 
 use crate::beside::{Fare, SPACE};
@@ -17,6 +17,7 @@ use crate::{beside, region};
 use announcing::foremost::Victims;
 use regions::Row;
 use regions::listed::Records;
+use requests::Window;
 
 // Whether one of the first n rows listed is at the hash h.
 fn listed_at(top: &Victims, n: usize, h: ident::Hash) -> bool
@@ -27,7 +28,7 @@ fn listed_at(top: &Victims, n: usize, h: ident::Hash) -> bool
 }
 
 // How the announcement c at k fares beside those that wait, if the candidate of the row y, the next of the victims, goes for
-// it. At the hash of a victim that is to go the store says too much, and so do the counts of the connection if the victim is its own.
+// it; where it is to wait, the rows of k. At the hash of a victim that is to go the store says too much, and so do the counts of the connection if the victim is its own.
 fn suits(
     s: &[u8],
     new: Records<Row>,
@@ -35,38 +36,38 @@ fn suits(
     k: ident::Key,
     c: requests::Candidate,
     y: regions::Row,
-) -> Fare
+) -> Result<Window, Fare>
     requires { Kept s.now × (new.count ≤ space) × (new.count < list_space) }
-    ensures { SuitedIn s.now (words new.entry.bytes.now) (words top.now.bytes) new.entry.count (key_num k) (candidate_of c) y result }
+    ensures { RowsOrFare s.now (key_num k) (SuitedIn s.now (words new.entry.bytes.now) (words top.now.bytes) new.entry.count (key_num k) (candidate_of c) y) result }
 {
     if new.count >= SPACE {
-        return Fare::Alone;
+        return Err(Fare::Alone);
     }
     if !c.preferred {
-        return Fare::Alone;
+        return Err(Fare::Alone);
     }
     let h = k.hash;
     if listed_at(top, new.count + 1, h) {
-        return Fare::Alone;
+        return Err(Fare::Alone);
     }
-    if beside::barred(s, new, k, c.connection) {
-        return Fare::Nothing;
-    }
-    if announcing::keyed::crowded(s, h) {
-        if announcing::evict::victim_at(s, h).is_some() {
-            return Fare::Alone;
+    let Some(w) = beside::open_rows(s, new, k, c.connection) else {
+        return Err(Fare::Nothing);
+    };
+    if announcing::keyed::crowded_in(s, h, w) {
+        if announcing::evict::victim_in(s, h, w).is_some() {
+            return Err(Fare::Alone);
         }
-        return Fare::Nothing;
+        return Err(Fare::Nothing);
     }
     if y.conn == c.connection {
-        return Fare::Alone;
+        return Err(Fare::Alone);
     }
     let q = y.hash;
     let v = ident::Hash::from(q);
     if region::waits_at(new, v) {
-        return Fare::Alone;
+        return Err(Fare::Alone);
     }
-    Fare::Waits
+    Ok(w.of_kind(k.kind))
 }
 
 // Announces c at k beside the d that wait, for the d-th of the victims listed in `top`. If it waits, that one is to go; it may
@@ -87,11 +88,11 @@ fn defer_at(
     }
     let y = top.get(d);
     match suits(s, Records::new(new, d), top, k, c, y) {
-        Fare::Waits => {
-            region::put_in(new, d, beside::waiting_row(s, k, c));
+        Ok(rows) => {
+            region::put_in(new, d, beside::waiting_row(s, k, rows, c));
             Fare::Waits
         }
-        fare => fare,
+        Err(fare) => fare,
     }
 }
 

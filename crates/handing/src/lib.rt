@@ -58,7 +58,7 @@ fn announce_for(
     ensures { KeysMerged s.old s.new u.old u.new c result (λ m t. announce_parents m n.number clock (hashes_in list.now) t) }
 {
     let mut keys = [0; KEYS];
-    let kept = announcing::parents::announce_parents(s, n, clock, list, &mut keys);
+    let kept = parenting::listed::announce_parents(s, n, clock, list, &mut keys);
     merging::merge(u, c, &keys[..kept * KEY])
 }
 

@@ -1,6 +1,7 @@
 pub mod Writing
 pub mod Scans
 pub mod Letters
+pub mod DigitValues
 pub mod Splitting
 pub mod Sameness
 pub mod Hashes

@@ -4,6 +4,7 @@ ghost use lib.Dec.{lit≤};
 ghost use Rattle.regions.specs.Rows.{quad_number};
 ghost use Rattle.ident.specs.Words.{key_num};
 ghost use Rattle.machine.specs.Fields.{numeral_of, number_of, type_of, hash_of, bool_of, kind_of, key_of, letter_kind, other_kind, other_of, item_of, same_text, before};
+ghost use Rattle.machine.specs.Claim.{elem};
 ghost use Rattle.machine.specs.Text.{hash_digits};
 ghost use Rattle.lines.specs.Hexadecimal.{hex_of};
 ghost use Rattle.lines.specs.Values.{value_in, with_digit, named_key, number_in, hash_in, bool_in, key_in, item_kind_in, item_in};
@@ -256,8 +257,20 @@ pub fn item(f: &[u8]) -> Option<Named<ident::ItemKind>>
 
 // ---- Fields
 
-// The first index at or after from where s has x, or its length.
-pub fn find(s: &[u8], from: usize, x: u8) -> usize
+// Whether x stands among bytes.
+// (No `contains`: each byte is compared, whatever the others are, so that many are compared at a time.)
+fn stands(s: &[u8], x: u8) -> bool
+    ensures { result ≡ elem x s.now }
+{
+    let mut found = false;
+    for &c in s {
+        found = found | (c == x);
+    }
+    found
+}
+
+// The first index at or after from where s has x, or its length: byte by byte.
+fn seek(s: &[u8], from: usize, x: u8) -> usize
     requires { from ≤ length s.now }
     ensures { result ≡ from + length (before x (drop from s.now)) }
 {
@@ -265,6 +278,24 @@ pub fn find(s: &[u8], from: usize, x: u8) -> usize
         Some(i) => from + i,
         None => s.len(),
     }
+}
+
+// Bytes that are passed at a time.
+const BLOCK: usize = 32;
+
+// The first index at or after from where s has x, or its length.
+pub fn find(s: &[u8], from: usize, x: u8) -> usize
+    requires { from ≤ length s.now }
+    ensures { result ≡ from + length (before x (drop from s.now)) }
+{
+    let mut at = from;
+    while BLOCK <= s.len() - at {
+        if stands(&s[at..at + BLOCK], x) {
+            return seek(s, at, x);
+        }
+        at += BLOCK;
+    }
+    seek(s, at, x)
 }
 
 // Where the field that starts at from ends: at the next comma, or with the line.

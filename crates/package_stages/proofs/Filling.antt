@@ -72,7 +72,8 @@ flag-empty st s i d l e =
     let f = each_at (PlaceFits (rows_of st.table)) (places_of st.table) i d (flat_sound st s).places-fit l in
     (subst (λ (n : ℕ). StageFits n p) e f.stage).1
 
-pub no-wtxids : {b : List ℕ} {i : ℕ} {x : Head} (k : Kept b) → i < held_places_in b → ((f : Flat) (d : Place) → Shows b f → x ≡ head_of (get_or f.places i d)) → x.stage ≡ 1 → NoneListed b i (λ p. p.wtxids)
+pub no-wtxids : {b : List ℕ} {i : ℕ} {x : Head} (k : Kept b) → i < held_places_in b → ((f : Flat) (d : Place) → Shows b f → x ≡ head_of (get_or f.places i d))
+    → x.stage ≡ 1 → NoneListed b i (λ p. p.wtxids)
 no-wtxids {b} {i} k l reads e =
     let z = sizes k.writes in
     let m : i < length (places_of k.state.table) = omega arith in

@@ -10,7 +10,6 @@ use Rattle.regions.specs.Rows.{row_size, row_words}
 use Rattle.machine.specs.State.{Entry, Table, State, on_table}
 use Rattle.machine.specs.Sound.{Sound}
 use Rattle.store.specs.Image.{Writes}
-use Rattle.store.specs.Shown.{Kept}
 use Rattle.store.proofs.Counts.{held-rows}
 use Rattle.requests.proofs.Keeping.{sized_of}
 use Rattle.gathering.specs.Merges.{gathered}
@@ -60,9 +59,6 @@ module _ {n : ℕ} {b w : List ℕ} {st : State} {t : Table} where
 
     pub none_empty : Empty w
     none_empty = empty_none v.entries v.base v.aside.count v.aside.rows
-
-    pub none_kept : Kept b
-    none_kept = record { state = on_table t st; sound = none_sound; writes = none_writes }
 
 -- they have come in, once none waits
 pub finished : {n d e : ℕ} {b b₁ b' w w₁ w' v : List ℕ} {q : Reserve} → Settled n b b₁ w w₁ v d e q → LetIn n b₁ b' w₁ w' e → Finished n b b' w v d q

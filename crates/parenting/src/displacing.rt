@@ -16,6 +16,7 @@ use gathering::rows::Waiting;
 use ident::connection::Connection;
 use machine::limits::MAX_PEER_ANNOUNCEMENTS;
 use regions::listed::Records;
+use requests::windows;
 
 // What is known of the victims: the first that give way are listed, of which as many as parents wait are to go. `spent` is a property of the tracker by itself,
 // whatever is listed: nobody can be evicted.
@@ -33,10 +34,11 @@ fn fits(s: &[u8], h: ident::Hash, n: u64) -> bool
     requires { Kept s.now }
 {
     let f = requests::figures(s, n);
-    if f.held >= MAX_PEER_ANNOUNCEMENTS || requests::is_candidate(s, h, n) {
+    if f.held >= MAX_PEER_ANNOUNCEMENTS {
         return false;
     }
-    !announcing::keyed::crowded(s, h)
+    let w = windows::windows_of(s, h);
+    !windows::is_candidate_in(s, h, w, n) && !announcing::keyed::crowded_in(s, h, w)
 }
 
 impl Known {

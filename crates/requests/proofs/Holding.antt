@@ -59,9 +59,6 @@ module _ (k : Key) (n lo : ℕ) (t : Table) (o : Ordered lo t) {from to i : ℕ}
 
 -- ---- at a hash, under either kind
 
-pub at_key_lem : {k j : Key} (n : ℕ) (t : Table) {a : Bool} → k ≡ j → a ≡ has n (at k t).candidates → a ≡ has n (at j t).candidates
-at_key_lem n t e z = z ∙ ap (λ (k : Key). has n (at k t).candidates) e
-
 has-counts : (n : ℕ) (cs : List Candidate) → has n cs ≡ ltb 0 (count_in (λ m. eqb m n) cs)
 unfolding has count_in
 has-counts n [] = sym (le-ltb 0 0 (omega arith))

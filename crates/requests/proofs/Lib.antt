@@ -10,3 +10,5 @@ pub mod Holding
 pub mod Finding
 pub mod Shearing
 pub mod Numbered
+pub mod Ending
+pub mod HashRows

@@ -4,19 +4,20 @@
 // asks that the bytes write some sound state, and room where a row is added.
 #![tactic(auto)]
 
-ghost use Rattle.std.specs.Prelude.{◌≡◌, ◌+◌, ◌-◌, ◌≤◌, ◌<◌, map, length, true, false};
+ghost use Rattle.std.specs.Prelude.{◌≡◌, ◌+◌, ◌-◌, ◌≤◌, ◌<◌, map, true, false};
 ghost use Rattle.std.proofs.Math.Option.{none};
+ghost use Rattle.ident.specs.Number.{place};
 ghost use Rattle.ident.specs.Words.{hash_num, key_num};
-ghost use Rattle.machine.specs.Limits.{max_announcements};
 ghost use Rattle.regions.specs.Rows.{key_number, with_deadline, with_bits, with_ready};
 ghost use Rattle.machine.specs.State.{owner_is, owned_until, unowned, with_candidates, ready_at};
-ghost use Rattle.machine.specs.Table.{at, change, has, held_at, is_candidate, one};
+ghost use Rattle.machine.specs.Table.{at, change, has, is_candidate, one};
 ghost use Rattle.machine.specs.Announce as machine;
 ghost use Rattle.machine.specs.Fail as fail;
 ghost use Rattle.regions.specs.Packed.{bit};
 ghost use Rattle.store.specs.Flat.{witness_bit};
 ghost use Rattle.store.specs.Shown.{limit_in, rows_in, Kept, Shown};
 ghost use Rattle.store.specs.Stamps.{marked_row};
+ghost use Rattle.requests.specs.Windows.{EndsAt};
 ghost use Rattle.requests.specs.Changes.{candidate_of, Spans, FoundAmong, MarkIn, RowFor, witness_as, RowAdopting, OwnedBare, FiguresOf, Makes, Tells};
 
 use regions::RowBits;
@@ -24,6 +25,7 @@ use std::ops::Bound;
 pub use store::rows::Window;
 
 pub mod whole;
+pub mod windows;
 
 // One announcement: who can deliver, as what item, from when on, and how it ranks. (`preferred` ranks by itself: no other field stands or falls with it.)
 #[derive(Clone, Copy, Debug, PartialEq, Eq)]
@@ -67,13 +69,24 @@ pub fn new_row(k: regions::Key, c: Candidate, mark: bool) -> regions::Row
 
 // ---- the rows of a key
 
+// Where the rows of the key k end, which begin at `from`. (A key has eight at most: they are walked, and no second search is made.)
+fn end_of(s: &[u8], k: regions::Key, from: usize) -> usize
+    requires { Shown s.now × (from ≤ rows_in s.now) }
+    ensures { EndsAt s.now (key_number k) from result }
+{
+    let n = store::head::rows(s);
+    (from..n)
+        .find(|&i| regions::key_less(k, regions::Key::from(store::rows::row_at(s, i))))
+        .unwrap_or(n)
+}
+
 // Where they stand.
 pub fn window_of(s: &[u8], k: regions::Key) -> Window
     requires { Kept s.now }
     ensures { Spans s.now (key_number k) result.from result.to }
 {
     let from = store::rows::seek_row(s, Bound::Included(k));
-    let to = store::rows::seek_row(s, Bound::Excluded(k));
+    let to = end_of(s, k, from);
     Window { from, to }
 }
 
@@ -91,6 +104,14 @@ fn find_row(s: &[u8], k: regions::Key, n: u64) -> Option<usize>
     ensures { FoundAmong s.now (key_number k) n result }
 {
     store::rows::find_row(s, window_of(s, k), n)
+}
+
+// Whether the connection n is a candidate of the request at k, whose rows are those of w.
+pub fn holds_in(s: &[u8], k: ident::Key, w: Window, n: u64) -> bool
+    requires { Kept s.now × Spans s.now (place (key_num k)) w.from w.to }
+    ensures { Tells s.now (λ t. result ≡ has n (at (key_num k) t).candidates) }
+{
+    store::rows::find_row(s, w, n).is_some()
 }
 
 // Whether the connection n is a candidate of the request at k.
@@ -120,49 +141,35 @@ pub fn figures(s: &[u8], n: u64) -> regions::Conn
 
 // ---- a hash
 
-// How many candidates the key k has.
-fn candidates_of(s: &[u8], k: ident::Key) -> usize
-    requires { Kept s.now }
-    ensures { (result ≤ max_announcements) × Tells s.now (λ t. result ≡ length (at (key_num k) t).candidates) }
-{
-    let key = regions::Key::from(k);
-    let w = window_of(s, key);
-    w.len()
-}
-
-// How many candidates the hash h has, over both kinds. (Both keys of a hash by their two constructors, wherever both are wanted: of a pair each reader would take them apart again.)
-pub fn candidates_at(s: &[u8], h: ident::Hash) -> usize
-    requires { Kept s.now }
-    ensures { Tells s.now (λ t. result ≡ held_at (hash_num h) t) }
-{
-    let a = ident::Key::from(ident::Txid(h));
-    let b = ident::Key::from(ident::Wtxid(h));
-    candidates_of(s, a) + candidates_of(s, b)
-}
-
 // Whether the connection n is a candidate at the hash h, under either kind.
 pub fn is_candidate(s: &[u8], h: ident::Hash, n: u64) -> bool
     requires { Kept s.now }
     ensures { Tells s.now (λ t. result ≡ is_candidate n (hash_num h) t) }
 {
-    let a = ident::Key::from(ident::Txid(h));
-    let b = ident::Key::from(ident::Wtxid(h));
-    holds(s, a, n) || holds(s, b, n)
+    windows::is_candidate_in(s, h, windows::windows_of(s, h), n)
 }
 
 // ---- one candidate more, one less
+
+// Adds a candidate of the request at k, whose rows are those of w, behind them.
+pub fn push_in(s: &mut [u8], k: ident::Key, w: Window, c: Candidate)
+    requires { Kept s.old × (rows_in s.old < limit_in s.old) × Spans s.old (place (key_num k)) w.from w.to }
+    ensures { Makes s.old s.new (λ t. owner_is c.connection (at (key_num k) t).owner ≡ false) (machine.push (key_num k) (candidate_of c)) }
+{
+    let key = regions::Key::from(k);
+    let mark = mark_in(s, w.from, w.to);
+    let r = new_row(key, c, mark);
+    store::parts::add(s, w.to, r);
+    store::counting::count_in(s, c.connection, 1);
+}
 
 // Adds a candidate of the request at k, behind those that are there.
 pub fn push(s: &mut [u8], k: ident::Key, c: Candidate)
     requires { Kept s.old × (rows_in s.old < limit_in s.old) }
     ensures { Makes s.old s.new (λ t. owner_is c.connection (at (key_num k) t).owner ≡ false) (machine.push (key_num k) (candidate_of c)) }
 {
-    let key = regions::Key::from(k);
-    let w = window_of(s, key);
-    let mark = mark_in(s, w.from, w.to);
-    let r = new_row(key, c, mark);
-    store::parts::add(s, w.to, r);
-    store::counting::count_in(s, c.connection, 1);
+    let w = window_of(s, regions::Key::from(k));
+    push_in(s, k, w, c);
 }
 
 // Takes the candidate of the connection n out of the request at k, which it does not own.
@@ -204,18 +211,18 @@ fn adopted_row(r: regions::Row, c: Candidate, same: bool) -> regions::Row
     }
 }
 
-// The candidate of c's connection at k adopts what c brings; `same` says that c is of k's kind.
-pub fn adopt(s: &mut [u8], k: ident::Key, c: Candidate, same: bool)
-    requires { Kept s.old }
+// The candidate of c's connection at k, whose rows are those of w, adopts what c brings; `same` says that c is of k's kind.
+pub fn adopt_in(s: &mut [u8], k: ident::Key, w: Window, c: Candidate, same: bool)
+    requires { Kept s.old × Spans s.old (place (key_num k)) w.from w.to }
     ensures { Makes s.old s.new (λ t. has c.connection (at (key_num k) t).candidates ≡ true) (machine.adopted same (key_num k) (candidate_of c)) }
 {
-    if let Some(i) = find_row(s, regions::Key::from(k), c.connection) {
+    if let Some(i) = store::rows::find_row(s, w, c.connection) {
         let r = store::rows::row_at(s, i);
         store::parts::set(s, i, adopted_row(r, c, same));
     }
 }
 
-// ---- the owner (each of `own`, `disown` and, above, `adopt` finds its row and stores it changed: one function over a closure of the row would say, in a
+// ---- the owner (each of `own`, `disown` and, above, `adopt_in` finds its row and stores it changed: one function over a closure of the row would say, in a
 // law of three lines, what these three lines do)
 
 // The row of who comes to own its request, and of who ceases to. (Here the bit is changed, and its number says by how much.)

@@ -24,7 +24,8 @@ use Rattle.wrapping.proofs.Unfound.{listed_as}
 use Rattle.wrapping.proofs.Turning.{Steady}
 
 module _ {n now : ℕ} (p : Peer n) (w : now < word) where
-  few_one : {m : Limits} {Q : ℕ} {t : Table} (i : Item) → i.hash < top → Bounded m Q t → length (not_found_one m n now i t).keys + max_parents * places_held (not_found_one m n now i t).table ≤ 1 + max_parents * places_held t
+  few_one : {m : Limits} {Q : ℕ} {t : Table} (i : Item) → i.hash < top → Bounded m Q t
+      → length (not_found_one m n now i t).keys + max_parents * places_held (not_found_one m n now i t).table ≤ 1 + max_parents * places_held t
   unfolding not_found_each
   few_one {m} {t = t} i h b = omega (arith, length-not_found_each n now (i ∷ []) p w (h, tt) b, length-append (not_found_one m n now i t).keys [])
 
@@ -34,7 +35,8 @@ module _ {n now : ℕ} (p : Peer n) (w : now < word) where
     few = λ m Q t i h b. few_one i h b;
   }
 
-pub failing_room : {s₀ : List ℕ} (l : List Item) (u₀ : List ℕ) → key_bytes * (length l + max_parents * places_in s₀) ≤ length u₀ → Tells s₀ (λ t. key_bytes * (length l + max_parents * places_held t) ≤ length u₀)
+pub failing_room : {s₀ : List ℕ} (l : List Item) (u₀ : List ℕ) → key_bytes * (length l + max_parents * places_in s₀) ≤ length u₀
+    → Tells s₀ (λ t. key_bytes * (length l + max_parents * places_held t) ≤ length u₀)
 failing_room l u₀ h st g w = omega (arith, g.bounded.room, (sizes w).places)
 
 in_turn_each : (m : Limits) (n now : ℕ) (l : List Item) (t : Table) → in_turn (not_found_one m n now) l t ≡ not_found_each m n now l t
@@ -42,5 +44,6 @@ unfolding in_turn not_found_each
 in_turn_each m n now [] t = refl
 in_turn_each m n now (i ∷ l) t = let a = not_found_one m n now i t in ap (λ (y : Listed). record { keys = a.keys ++ y.keys; table = y.table }) (in_turn_each m n now l a.table)
 
-pub each_failed : {b b' u u' : List ℕ} {c : ℕ} (n now : ℕ) (l : List Item) → KeysListed b b' u u' c (λ m t. in_turn (not_found_one m n now) l t) → KeysListed b b' u u' c (λ m t. not_found_each m n now l t)
+pub each_failed : {b b' u u' : List ℕ} {c : ℕ} (n now : ℕ) (l : List Item) → KeysListed b b' u u' c (λ m t. in_turn (not_found_one m n now) l t)
+    → KeysListed b b' u u' c (λ m t. not_found_each m n now l t)
 each_failed n now l v = listed_as _ _ (λ st g w. in_turn_each (limits_of st) n now l st.table) v

@@ -27,7 +27,7 @@ owns_not n (some o) h = elim (test (eqb o.connection n)) [ inl e ↦ absurd (ome
 
 module _ (m : Limits) (n now : ℕ) (t : Table) where
   -- the request at k is not owned by n: no item with that key fails
-  pub keyed_not : (k : Key) → owner_is n (at k t).owner ≡ false → fail_keyed (some k) n now t ≡ nothing t
+  keyed_not : (k : Key) → owner_is n (at k t).owner ≡ false → fail_keyed (some k) n now t ≡ nothing t
   unfolding failed
   keyed_not k f = rw f
 

@@ -45,14 +45,14 @@ module _ (v : ℕ) where
   dropped_key : (r : Request) → (dropped_in v r).key ≡ r.key
   dropped_key r = by_test (λ (q : Request). q.key ≡ r.key) (late v r.owner) (λ e. refl) (λ e. refl)
 
-  pub ordered_dropped : (lo : ℕ) (t : Table) → Ordered lo t → Ordered lo (dropped_all v t)
+  ordered_dropped : (lo : ℕ) (t : Table) → Ordered lo t → Ordered lo (dropped_all v t)
   unfolding dropped_all
   ordered_dropped lo [] o = tt
   ordered_dropped lo (r ∷ t) o =
       let e = dropped_key r in
       ordered_keep lo (dropped_in v r) (dropped_in v r).candidates (dropped_all v t) (rw e o.0) (rw e o.1) (rw e (ordered_dropped (suc (place r.key)) t o.2))
 
-  pub filled_dropped : (t : Table) → All Filled (dropped_all v t)
+  filled_dropped : (t : Table) → All Filled (dropped_all v t)
   unfolding dropped_all
   filled_dropped [] = tt
   filled_dropped (r ∷ t) = all_keep Filled (dropped_in v r) (dropped_in v r).candidates (dropped_all v t) refl (λ h. h) (filled_dropped t)

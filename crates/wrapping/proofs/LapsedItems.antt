@@ -139,7 +139,8 @@ module _ (n now : ℕ) (w : now < word) where
   unfolding not_found_one
   one_keyed m i t e = rw (not-true (is_type msg_anc_pkg_info i.kind) e) refl
 
-  pub comes_each : {m : Limits} {Q : ℕ} {t : Table} (l : List Item) → Each (λ (i : Item). i.hash < top) l → all_keyed l ≡ true → Waits m Q t → Comes m Q (lapse_each n now l t) (not_found_each m n now l (dropped_all 0 t))
+  pub comes_each : {m : Limits} {Q : ℕ} {t : Table} (l : List Item) → Each (λ (i : Item). i.hash < top) l → all_keyed l ≡ true
+      → Waits m Q t → Comes m Q (lapse_each n now l t) (not_found_each m n now l (dropped_all 0 t))
   unfolding in_turn not_found_each all_keyed
   comes_each [] h e v = record { keys = refl; left = refl; waits = v }
   comes_each {m} {Q} {t} (i ∷ l) h e v =

@@ -23,13 +23,13 @@ use Rattle.machine.proofs.Change.{ShrinksAt, bounded_at, bounded-change}
 use Rattle.machine.proofs.Fail.{parents_none}
 use Rattle.machine.proofs.Table.{ordered-change, filled-change, lawful_at, all_at, all_change}
 use Rattle.machine.proofs.Tests.{test, never, and_left, and_right}
-use Rattle.failing.proofs.Fusing.{GivesNone, change_fuse}
+use Rattle.failing.proofs.Fusing.{change_fuse}
 use Rattle.failing.proofs.Leaving.{without-ready}
 use Rattle.store.specs.Flat.{places_for}
 use Rattle.handing.specs.Hands.{readied}
 use Rattle.handing.proofs.GivingBack.{shrinks_ready}
 use Rattle.apart.specs.Silent.{readied_both, late, owner_num, gone, dropped_in, dropped_all, Unburdened}
-use Rattle.apart.proofs.Dropping.{both_swap, owner-has, failed_is}
+use Rattle.apart.proofs.Dropping.{gone_none, both_swap, owner-has, failed_is}
 use Rattle.apart.proofs.Silence.{ready_none}
 use Rattle.wrapping.specs.Lapses.{lapses, overdue, lapsed}
 use Rattle.wrapping.proofs.Lapsed.{dropped_change, at_stays}
@@ -58,7 +58,7 @@ dropped_both now k u s o a =
 
 -- ---- whether an owner waits
 
-pub alive_timely : (o : Option Owner) → alive 0 o ≡ true → late 0 o ≡ false
+alive_timely : (o : Option Owner) → alive 0 o ≡ true → late 0 o ≡ false
 alive_timely none e = refl
 alive_timely (some o) e = elim (test (leb o.deadline 0)) [ inl l ↦ absurd (omega (arith, leb-true o.deadline 0 l, ltb-true 0 o.deadline e)) | inr l ↦ l ]
 
@@ -70,10 +70,6 @@ unburdened_ready : (now : ℕ) (j : Key) (u : Table) → Ordered 0 u → Unburde
 unburdened_ready now j u o a = all_change (Bare 0) j (readied now) 0 u o (λ e. ready_none now (at j u) (all_at (Bare 0) j u (λ d. never d) a e)) a
 
 -- ---- the owner's deadline is 0
-
-gone_none : (n : ℕ) → GivesNone (gone n)
-unfolding without
-gone_none n r e = ap (without n) e
 
 gone_blank : (n : ℕ) (k : Key) → gone n (blank k) ≡ blank k
 unfolding without

@@ -45,7 +45,7 @@ pub fn announce_parents(
         refusals::KEYS_ANSWER,
     )?;
     let n = refusals::need_of(s);
-    let listed = announcing::parents::announce_parents(
+    let listed = parenting::listed::announce_parents(
         &mut s[..n],
         connection,
         clock.time,

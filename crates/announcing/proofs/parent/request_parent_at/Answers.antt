@@ -4,19 +4,19 @@ use Rattle.requests.specs.Changes.{candidate_of}
 use Rattle.announcing.proofs.Adopting.{at_key, at_other, at_neither}
 use Rattle.announcing.proofs.parent.request_parent_at.Goals as goal
 
-pub returns-then-holds : goal.returns-then-holds
-returns-then-holds c =
-    at_key _ _ (key_num c.args.k) (candidate_of c.args.c) c.holds.ensures c.if-holds.true
-    c.adopt.ensures
+pub returns-then-holds_in : goal.returns-then-holds_in
+returns-then-holds_in c =
+    at_key _ _ (key_num c.args.k) (candidate_of c.args.c) c.holds_in.ensures c.if-holds_in.true
+    c.adopt_in.ensures
 
-pub returns-then-holds-2 : goal.returns-then-holds-2
-returns-then-holds-2 c =
+pub returns-then-holds_in-2 : goal.returns-then-holds_in-2
+returns-then-holds_in-2 c =
     at_other _ _ (key_num c.args.k) (candidate_of c.args.c) _ c.same_hash_other_kind-other.ensures
-    c.holds.ensures c.if-holds.false
-    c.holds-2.ensures c.if-holds-2.true c.adopt-then-holds-2.ensures
+    c.holds_in.ensures c.if-holds_in.false
+    c.holds_in-2.ensures c.if-holds_in-2.true c.adopt_in-then-holds_in-2.ensures
 
 pub returns : goal.returns
 returns c =
     at_neither _ _ (key_num c.args.k) (candidate_of c.args.c) _ c.same_hash_other_kind-other.ensures
-    c.holds.ensures c.if-holds.false
-    c.holds-2.ensures c.if-holds-2.false c.announce_at.ensures
+    c.holds_in.ensures c.if-holds_in.false
+    c.holds_in-2.ensures c.if-holds_in-2.false c.announce_in.ensures

@@ -1,23 +1,31 @@
 -- `gathering::deferred::suits` meets its contract.
-use mathlib.Core.Path.{sym, ◌∙◌}
+use mathlib.Core.Path.{refl, sym, ◌∙◌}
 use native.Mathlib.Omega.{arith}
 use borrow.Author.Tests.{not-false, ne_eqb}
+use Rattle.ident.specs.Words.{key_num}
+use Rattle.requests.proofs.HashRows.{kind_spans}
 use Rattle.gathering.proofs.Deferrals.{suited-crowded, suited_in}
 use Rattle.gathering.proofs.deferred.suits.Goals as goal
 
-pub returns-then-crowded : goal.returns-then-crowded
-returns-then-crowded c = suited-crowded (not-false c.args.c.preferred
-    c.if-not-c.false) c.listed_at.ensures
-    c.if-listed_at.false c.crowded.ensures c.if-crowded.true c.victim_at.result
-    c.victim_at.ensures (sym c.is_some.ensures ∙ c.if-is_some.false)
+pub returns-then-crowded_in : goal.returns-then-crowded_in
+returns-then-crowded_in c = (
+  suited-crowded (not-false c.args.c.preferred
+      c.if-not-c.false) c.listed_at.ensures
+      c.if-listed_at.false c.crowded_in.ensures c.if-crowded_in.true c.victim_in.result
+      c.victim_in.ensures (sym c.is_some.ensures ∙ c.if-is_some.false),
+  λ e. cc,
+)
 
 pub returns : goal.returns
-returns c = suited_in (not-false c.args.c.preferred c.if-not-c.false)
-    c.listed_at.ensures
-    c.if-listed_at.false (omega
-    (arith, c.if-new-ge-SPACE.false))
-    c.barred.ensures c.if-barred.false
-    c.crowded.ensures c.if-crowded.false
-    (ne_eqb c.args.y.conn
-    c.args.c.connection
-    c.if-y-c.false) c.from-v.ensures c.waits_at.ensures c.if-waits_at.false
+returns c = (
+  suited_in (not-false c.args.c.preferred c.if-not-c.false)
+      c.listed_at.ensures
+      c.if-listed_at.false (omega
+      (arith, c.if-new-ge-SPACE.false))
+      c.in-Some.ensures.0 refl
+      c.crowded_in.ensures c.if-crowded_in.false
+      (ne_eqb c.args.y.conn
+      c.args.c.connection
+      c.if-y-c.false) c.from-v.ensures c.waits_at.ensures c.if-waits_at.false,
+  kind_spans (key_num c.args.k) c.in-Some.ensures.1 refl c.of_kind.ensures,
+)

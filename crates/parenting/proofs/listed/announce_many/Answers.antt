@@ -29,7 +29,8 @@ loop-i-preserved c =
           elim w.if-announce_further.branch [
             | then-announce_further z ↦
                 supplied_as w.s-is (w.out-is ∙ z.out-is) w.new-is w.q-is (w.kept-is ∙ z.kept-is) w.priority-is
-                (turned_more v inside _ w.hash_in-hash.ensures peer late few new (one_further w.announce_further.ensures) z.if-announce_further.true c.requires.2 (keyed _ _ z.from.ensures z.put_key.ensures))
+                (turned_more v inside _ w.hash_in-hash.ensures peer late few new (one_further w.announce_further.ensures) z.if-announce_further.true c.requires.2
+                (keyed _ _ z.from.ensures z.put_key.ensures))
             | else-announce_further z ↦
                 supplied_as w.s-is (w.out-is ∙ z.out-is) w.new-is w.q-is (w.kept-is ∙ z.kept-is) w.priority-is
                 (turned_left v inside _ w.hash_in-hash.ensures peer late few new (one_further w.announce_further.ensures) z.if-announce_further.false)

@@ -6,7 +6,7 @@ use lib.ListN.{length}
 use Rattle.machine.specs.Call.{key_bytes}
 use Rattle.lent_lists.specs.Items.{items_in}
 use Rattle.lent_lists.proofs.Inventory.{items-fit}
-use Rattle.wrapping.proofs.Turning.{turned_start, turned_done, turned_kept, turned_fits, turned_roomy, turned_more}
+use Rattle.wrapping.proofs.Turning.{turned_start, turned_kept, turned_fits, turned_roomy, turned_more}
 use Rattle.wrapping.proofs.LapsedItems.{lapsing_steady, lapsing_room}
 use Rattle.wrapping.proofs.lapsing.lapse_each.Goals as goal
 
@@ -79,6 +79,3 @@ loop-i-preserved c =
     turned_more v steady h c.requires.0 room inside from refl _ c.item_at-item.ensures
     c.lapse_item-c.auto.s c.lapse_item-c.auto.out
     c.lapse_item-c.ensures
-
-pub returns : goal.returns
-returns c = turned_done c.loop-i.invariant (omega (arith, c.loop-i.invariant.inside, c.loop-i-test.false, c.items-count.ensures))
