@@ -1,8 +1,8 @@
 -- Owners whose time is over fail one after the other: the same as all candidates beside them made ready first, and then all of them dropped.
 use Prim.Native.Nat.{ℕ, suc, ◌+◌, ◌≤◌, ◌<◌}
-use mathlib.Core.Path.{◌≡◌, refl, sym, ap, subst, ◌∙◌}
+use mathlib.Core.Path.{◌≡◌, refl, sym, ap, ◌∙◌}
 use mathlib.Core.Logic.{inl, inr}
-use mathlib.Core.Bool.{Bool, true, false}
+use mathlib.Core.Bool.{Bool, true, false, ◌||◌}
 use mathlib.Core.List.{List, [], ◌∷◌, ◌++◌, map}
 use mathlib.Core.Option.{Option, none, some}
 use native.Mathlib.Omega.{arith}
@@ -15,16 +15,16 @@ use Rattle.std.specs.Prelude.{if◌then◌else◌}
 use Rattle.ident.specs.Number.{top, Key, place, other, txid, wtxid}
 use Rattle.ident.proofs.Places.{place_same as place-inj}
 use Rattle.machine.specs.Limits.{Limits, word}
-use Rattle.machine.specs.State.{Candidate, Owner, Request, Table, with_candidates, unowned, ready_at, owner_is}
+use Rattle.machine.specs.State.{Candidate, Owner, Request, Table, with_candidates, unowned, ready_at, owner_is, enqueued_in, is_some}
 use Rattle.machine.specs.Table.{at, keep, change, has, count_in}
 use Rattle.machine.specs.Announce.{without}
-use Rattle.machine.specs.Fail.{Listed, releasable, left, failed, dedup, parents_from, announce_parents, parents_for}
-use Rattle.machine.specs.Plan.{Due, due_of, due, expire}
+use Rattle.machine.specs.Fail.{releasable, left, failed}
+use Rattle.machine.specs.Plan.{Due, due_of}
 use Rattle.machine.specs.Sound.{Ordered, All, Filled, OwnerFits, Bounded}
 use Rattle.machine.specs.Typed.{Each}
-use Rattle.machine.proofs.Alone.{Hold, hold_of, no_hold}
+use Rattle.machine.proofs.Alone.{Hold}
 use Rattle.machine.proofs.At.{at_here, at_there, at_other, other_place}
-use Rattle.machine.proofs.Expired.{owned_once, failed_here, failed-elsewhere, owner_not as none_owned}
+use Rattle.machine.proofs.Expired.{owned_once, failed-elsewhere, owner_not as none_owned}
 use Rattle.machine.proofs.Fail.{bounded-failed}
 use Rattle.machine.proofs.Loosened.{left_key, owner_some as some-owned}
 use Rattle.machine.proofs.Table.{ordered-change, filled-change, lawful_at}
@@ -32,13 +32,15 @@ use Rattle.machine.proofs.Tests.{test, never}
 use Rattle.machine.proofs.First.{change_first, change-later, keep_some as keep-filled, without-absent as without-none}
 use Rattle.machine.proofs.Leaving.{count-has as in-has}
 use Rattle.store.proofs.Counts.{in_hasnt}
+use Rattle.package_stages.specs.Changes.{has_place}
 use Rattle.requests.proofs.AtHash.{at-hash}
 use Rattle.apart.specs.Silent.{owner_num}
 use Rattle.failing.proofs.Fusing.{GivesNone, change_fuse, change_same}
 use Rattle.failing.proofs.Leaving.{without-ready}
 use Rattle.handing.specs.Hands.{readied}
 use Rattle.announcing.proofs.Swapping.{change-swap}
-use Rattle.apart.specs.Silent.{fail_each, readied_both, ready_each, late, gone, dropped_in, dropped_all}
+use Rattle.apart.specs.Silent.{fail_each, readied_both, ready_each, late, gone, dropped_in, due_by, dropped_by}
+use Rattle.apart.proofs.Overdue.{none_packaged}
 
 -- ---- dropping one and readying, in either order
 
@@ -140,84 +142,51 @@ gone_each [] t = t
 gone_each (d ∷ ds) t = gone_each ds (change d.key (gone d.connection) t)
 
 -- ascending, from lo on
-abbrev Rising : ℕ → List Due → Type 0
+abbrev pub Rising : ℕ → List Due → Type 0
 Rising lo [] = Unit {0}
 Rising lo (d ∷ ds) = (lo ≤ place d.key) × Rising (suc (place d.key)) ds
 
-abbrev Owned : Table → List Due → Type 0
+abbrev pub Owned : Table → List Due → Type 0
 Owned t ds = Each (λ (d : Due). owner_is d.connection (at d.key t).owner ≡ true) ds
 
--- neither flag nor package
-pub record Unheld (r : Request) : Type 0 where
-  pub flag : r.info ≡ false
-  pub nothing : r.«package» ≡ none
+-- none of them has a place
+abbrev pub Free : Table → List Due → Type 0
+Free t ds = Each (λ (d : Due). has_place (at d.key t) ≡ false) ds
 
-abbrev pub Packless : Table → Type 0
-Packless t = (j : Key) → j.hash < top → Unheld (at j t)
+pub calm : (r : Request) → has_place r ≡ false → enqueued_in r.«package» ≡ false
+calm r f = none_packaged r.info r.«package» f
 
-module _ {m : Limits} {Q : ℕ} {t : Table} (now : ℕ) (late : now < word) (k : Key) (n : ℕ) (s : k.hash < top) (b : Bounded m Q t) (own : owner_is n (at k t).owner ≡ true) (p : Packless t) where
+module _ {m : Limits} {Q : ℕ} {t : Table} (now : ℕ) (k : Key) (n : ℕ) (s : k.hash < top) (b : Bounded m Q t) where
   abbrev after : Table
   after = (failed k n now t).table
 
-  held_same : (r q : Request) → hold_of r ≡ hold_of q → Unheld q → Unheld r
-  held_same r q e u = record { flag = ap (λ (x : Hold). x.info) e ∙ u.flag; nothing = ap (λ (x : Hold). x.«package») e ∙ u.nothing }
-
-  none_held : (r : Request) → hold_of r ≡ no_hold → Unheld r
-  none_held r e = record { flag = ap (λ (x : Hold). x.info) e; nothing = ap (λ (x : Hold). x.«package») e }
-
-  still_packless : Packless after
-  still_packless j h = elim (test (eqb (place j) (place k))) [
-    | inl e ↦ rw (place-inj j k h s (eqb-true (place j) (place k) e)) (none_held (at k after) (failed_here k n now s b (rw (own, (p k s).nothing) refl)))
-    | inr e ↦ held_same (at j after) (at j t) (failed-elsewhere k n now s b j h (eqb-false (place j) (place k) e)) (p j h)
-  ]
-
-  still_owned : (lo : ℕ) (ds : List Due) → place k < lo → Rising lo ds → Keyed ds → Owned t ds → Owned after ds
+  pub still_owned : (lo : ℕ) (ds : List Due) → place k < lo → Rising lo ds → Keyed ds → Owned t ds → Owned after ds
   still_owned lo [] h r a o = tt
   still_owned lo (d ∷ ds) h r a o = (
     ap (λ (x : Hold). owner_is d.connection x.owner) (failed-elsewhere k n now s b d.key a.0 (λ e. omega (arith, r.0))) ∙ o.0,
     still_owned (suc (place d.key)) ds (omega (arith, r.0)) r.1 a.1 o.1,
   )
 
-fail-each : {m : Limits} {Q : ℕ} (now lo : ℕ) (ds : List Due) (t : Table) → now < word → Bounded m Q t → Packless t → Rising lo ds → Keyed ds → Owned t ds
+  pub still_free : (lo : ℕ) (ds : List Due) → place k < lo → Rising lo ds → Keyed ds → Free t ds → Free after ds
+  still_free lo [] h r a o = tt
+  still_free lo (d ∷ ds) h r a o = (
+    ap (λ (x : Hold). x.info || is_some x.«package») (failed-elsewhere k n now s b d.key a.0 (λ e. omega (arith, r.0))) ∙ o.0,
+    still_free (suc (place d.key)) ds (omega (arith, r.0)) r.1 a.1 o.1,
+  )
+
+fail-each : {m : Limits} {Q : ℕ} (now lo : ℕ) (ds : List Due) (t : Table) → now < word → Bounded m Q t → Rising lo ds → Keyed ds → Owned t ds → Free t ds
     → fail_each now ds t ≡ gone_each ds (ready_each now ds t)
 unfolding fail_each gone_each ready_each
-fail-each now lo [] t w b p r a o = refl
-fail-each now lo (d ∷ ds) t w b p r a o =
+fail-each now lo [] t w b r a o f = refl
+fail-each now lo (d ∷ ds) t w b r a o f =
     let k = d.key in
     let n = d.connection in
     let u = readied_both now k t in
-    fail-each now (suc (place k)) ds (failed k n now t).table w (bounded-failed k n now a.0 w b) (still_packless now w k n a.0 b o.0 p) r.1 a.1
-    (still_owned now w k n a.0 b o.0 p (suc (place k)) ds (omega arith) r.1 a.1 o.1)
-    ∙ ap (λ (x : Table). gone_each ds (ready_each now ds x)) (failed_is now k n a.0 b o.0 (rw (o.0, (p k a.0).nothing) refl))
+    let behind = suc (place k) in
+    fail-each now behind ds (failed k n now t).table w (bounded-failed k n now a.0 w b) r.1 a.1
+    (still_owned now k n a.0 b behind ds (omega arith) r.1 a.1 o.1) (still_free now k n a.0 b behind ds (omega arith) r.1 a.1 f.1)
+    ∙ ap (λ (x : Table). gone_each ds (ready_each now ds x)) (failed_is now k n a.0 b o.0 (rw (o.0, calm (at k t) f.0) refl))
     ∙ ap (gone_each ds) (each_swap n now k ds u a.0 a.1 (ordered_both now k t a.0 b.ordered) (filled_both now k t b.filled))
-
--- none of them has parents to announce
-parentless : (n : ℕ) (r : Request) → Unheld r → parents_for n r ≡ []
-parentless n r u = elim (test (owner_is n r.owner)) [ inl e ↦ rw (e, u.flag, u.nothing) refl | inr e ↦ rw e refl ]
-
-expire-each : {m : Limits} {Q : ℕ} (now lo : ℕ) (ds : List Due) (t : Table) → now < word → Bounded m Q t → Packless t → Rising lo ds → Keyed ds → Owned t ds
-    → expire m now ds t ≡ record { keys = []; table = fail_each now ds t }
-unfolding expire fail_each announce_parents dedup parents_from
-expire-each now lo [] t w b p r a o = refl
-expire-each {m} now lo (d ∷ ds) t w b p r a o =
-    let k = d.key in
-    let n = d.connection in
-    let step : List ℕ → Listed = λ ps.
-    (let x = announce_parents m n now ps (failed k n now t).table in
-    let rest = expire m now ds x.table in
-    record { keys = x.keys ++ rest.keys; table = rest.table }) in
-    ap step (parentless n (at k t) (p k a.0))
-    ∙ expire-each now (suc (place k)) ds (failed k n now t).table w (bounded-failed k n now a.0 w b) (still_packless now w k n a.0 b o.0 p) r.1 a.1
-    (still_owned now w k n a.0 b o.0 p (suc (place k)) ds (omega arith) r.1 a.1 o.1)
-
-packless_each : {m : Limits} {Q : ℕ} (now lo : ℕ) (ds : List Due) (t : Table) → now < word → Bounded m Q t → Packless t → Rising lo ds → Keyed ds → Owned t ds → Packless (fail_each now ds t)
-unfolding fail_each
-packless_each now lo [] t w b p r a o = p
-packless_each now lo (d ∷ ds) t w b p r a o =
-    let k = d.key in
-    let n = d.connection in
-    packless_each now (suc (place k)) ds (failed k n now t).table w (bounded-failed k n now a.0 w b) (still_packless now w k n a.0 b o.0 p) r.1 a.1
-    (still_owned now w k n a.0 b o.0 p (suc (place k)) ds (omega arith) r.1 a.1 o.1)
 
 -- ---- dropped one by one, or in one pass
 
@@ -237,24 +206,6 @@ rising_less : (hi lo : ℕ) (ds : List Due) → lo ≤ hi → Rising hi ds → R
 rising_less hi lo [] h r = tt
 rising_less hi lo (d ∷ ds) h r = (omega (arith, r.0), r.1)
 
-due-rising : (now lo : ℕ) (t : Table) → Ordered lo t → Rising lo (due now t)
-unfolding due
-due-rising now lo [] o = tt
-due-rising now lo (r ∷ t) o = go r.owner (due-rising now (suc (place r.key)) t o.2)
-  where
-    go : (w : Option Owner) → Rising (suc (place r.key)) (due now t) → Rising lo (due_of now r.key w ++ due now t)
-    go none a = rising_less (suc (place r.key)) lo (due now t) (omega (arith, o.0)) a
-    go (some w) a = elim (test (leb w.deadline now)) [ inl e ↦ rw e (o.0, a) | inr e ↦ rw e (rising_less (suc (place r.key)) lo (due now t) (omega (arith, o.0)) a) ]
-
-pub due-keyed : (now lo : ℕ) (t : Table) → Ordered lo t → Keyed (due now t)
-unfolding due
-due-keyed now lo [] o = tt
-due-keyed now lo (r ∷ t) o = go r.owner (due-keyed now (suc (place r.key)) t o.2)
-  where
-    go : (w : Option Owner) → Keyed (due now t) → Keyed (due_of now r.key w ++ due now t)
-    go none a = a
-    go (some w) a = elim (test (leb w.deadline now)) [ inl e ↦ rw e (o.1, a) | inr e ↦ rw e a ]
-
 owned-behind : (lo : ℕ) (ds : List Due) (r : Request) (t : Table) → place r.key < lo → Rising lo ds → Owned t ds → Owned (r ∷ t) ds
 owned-behind lo [] r t h a o = tt
 owned-behind lo (d ∷ ds) r t h a o = (
@@ -262,103 +213,128 @@ owned-behind lo (d ∷ ds) r t h a o = (
   owned-behind (suc (place d.key)) ds r t (omega (arith, a.0)) a.1 o.1,
 )
 
-due-owned : (now lo : ℕ) (t : Table) → Ordered lo t → Owned t (due now t)
-unfolding due
-due-owned now lo [] o = tt
-due-owned now lo (r ∷ t) o =
-    go r.owner refl (owned-behind (suc (place r.key)) (due now t) r t (omega arith) (due-rising now (suc (place r.key)) t o.2) (due-owned now (suc (place r.key)) t o.2))
-  where
-    go : (w : Option Owner) → r.owner ≡ w → Owned (r ∷ t) (due now t) → Owned (r ∷ t) (due_of now r.key w ++ due now t)
-    go none e a = a
-    go (some w) e a = elim (test (leb w.deadline now)) [
-      | inl l ↦ rw l (ap (λ (q : Request). owner_is w.connection q.owner) (at_here r.key r t refl) ∙ ap (owner_is w.connection) e ∙ eq-eqb w.connection w.connection refl, a)
-      | inr l ↦ rw l a
-    ]
-
-gone_all : (now lo : ℕ) (t : Table) → Ordered lo t → All Filled t → gone_each (due now t) t ≡ dropped_all now t
-unfolding due dropped_all
-gone_all now lo [] o f = unfold gone_each in refl
-gone_all now lo (r ∷ t) o f = go (gone_all now (suc (place r.key)) t o.2 f.1) r.owner refl
-  where
-    up : Rising (suc (place r.key)) (due now t)
-    up = due-rising now (suc (place r.key)) t o.2
-
-    stay : gone_each (due now t) t ≡ dropped_all now t → late now r.owner ≡ false → gone_each (due now t) (r ∷ t) ≡ keep (dropped_in now r) (dropped_in now r).candidates (dropped_all now t)
-    stay rest l =
-        behind (suc (place r.key)) (due now t) r t (omega arith) up ∙ ap (λ (x : Table). r ∷ x) rest
-        ∙ sym (ap (λ (b : Bool). keep (if b then gone (owner_num r.owner) r else r) (if b then gone (owner_num r.owner) r else r).candidates (dropped_all now t)) l
-        ∙ keep-filled r r.candidates (dropped_all now t) f.0)
-
-    go : gone_each (due now t) t ≡ dropped_all now t → (w : Option Owner) → r.owner ≡ w
-        → gone_each (due_of now r.key w ++ due now t) (r ∷ t) ≡ keep (dropped_in now r) (dropped_in now r).candidates (dropped_all now t)
-    go rest none e = stay rest (ap (late now) e)
-    go rest (some w) e = elim (test (leb w.deadline now)) [
-      | inl l ↦ rw l (unfold gone_each in
-          (ap (gone_each (due now t)) (change_first r.key (gone w.connection) r t refl)
-          ∙ behind-keep (suc (place r.key)) (due now t) (gone w.connection r) (gone w.connection r).candidates t (omega arith) up
-          ∙ ap (keep (gone w.connection r) (gone w.connection r).candidates) rest
-          ∙ sym (ap (λ (x : Option Owner). keep (if late now x then gone (owner_num x) r else r) (if late now x then gone (owner_num x) r else r).candidates (dropped_all now t)) e
-          ∙ ap (λ (b : Bool). keep (if b then gone w.connection r else r) (if b then gone w.connection r else r).candidates (dropped_all now t)) l)))
-      | inr l ↦ rw l (stay rest (ap (late now) e ∙ l))
-    ]
-
--- ---- those who are due stay so while candidates are made ready
-
-due-ready : (now v : ℕ) (k : Key) (t : Table) → All Filled t → due now (change k (readied v) t) ≡ due now t
-unfolding due change
-due-ready now v k [] f = unfold keep in refl
-due-ready now v k (r ∷ t) f =
-    elim (test (ltb (place k) (place r.key))) [
-      | inl e ↦ rw e (unfold keep in refl)
-      | inr e ↦ rw e (elim (test (eqb (place k) (place r.key))) [
-        | inl d ↦ rw d (some r.candidates f.0)
-        | inr d ↦ rw d (ap (λ (l : List Due). due_of now r.key r.owner ++ l) (due-ready now v k t f.1))
-      ])
-    ]
-  where
-    some : (cs : List Candidate) → 1 ≤ length cs → due now (keep (readied v r) (map (ready_at v) cs) t) ≡ due_of now r.key r.owner ++ due now t
-    some [] h = absurd (omega arith)
-    some (c ∷ cs) h = unfold keep in refl
-
-due_both : (now : ℕ) (ds : List Due) (t : Table) → All Filled t → due now (ready_each now ds t) ≡ due now t
-unfolding ready_each
-due_both now [] t f = refl
-due_both now (d ∷ ds) t f =
-    due_both now ds (readied_both now d.key t) (filled_both now d.key t f)
-    ∙ due-ready now now (other d.key) (change d.key (readied now) t) (filled-change d.key (readied now) t f) ∙ due-ready now now d.key t f
-
 ordered_each : (now : ℕ) (ds : List Due) (t : Table) → Keyed ds → Ordered 0 t → Ordered 0 (ready_each now ds t)
 unfolding ready_each
 ordered_each now [] t a o = o
 ordered_each now (d ∷ ds) t a o = ordered_each now ds (readied_both now d.key t) a.1 (ordered_both now d.key t a.0 o)
 
-filled_each : (now : ℕ) (ds : List Due) (t : Table) → All Filled t → All Filled (ready_each now ds t)
+pub filled_each : (now : ℕ) (ds : List Due) (t : Table) → All Filled t → All Filled (ready_each now ds t)
 unfolding ready_each
 filled_each now [] t f = f
 filled_each now (d ∷ ds) t f = filled_each now ds (readied_both now d.key t) (filled_both now d.key t f)
 
-module _ {m : Limits} {Q : ℕ} (now : ℕ) (t : Table) (w : now < word) (b : Bounded m Q t) (p : Packless t) where
-  abbrev ds : List Due
-  ds = due now t
+-- ---- the owners at the keys that pass p
 
-  keyed : Keyed ds
-  keyed = due-keyed now 0 t b.ordered
+module _ (p : Key → Bool) (now : ℕ) where
+  abbrev here : Request → List Due
+  here r = if p r.key then due_of now r.key r.owner else []
 
-  rising : Rising 0 ds
-  rising = due-rising now 0 t b.ordered
+  pub by-rising : (lo : ℕ) (t : Table) → Ordered lo t → Rising lo (due_by p now t)
+  unfolding due_by
+  by-rising lo [] o = tt
+  by-rising lo (r ∷ t) o =
+      let rest = by-rising (suc (place r.key)) t o.2 in
+      let none_here = rising_less (suc (place r.key)) lo (due_by p now t) (omega (arith, o.0)) rest in
+      elim (test (p r.key)) [ inl e ↦ rw e (go none_here rest r.owner) | inr e ↦ rw e none_here ]
+    where
+      go : Rising lo (due_by p now t) → Rising (suc (place r.key)) (due_by p now t) → (w : Option Owner) → Rising lo (due_of now r.key w ++ due_by p now t)
+      go a rest none = a
+      go a rest (some w) = elim (test (leb w.deadline now)) [ inl e ↦ rw e (o.0, rest) | inr e ↦ rw e a ]
 
-  owned : Owned t ds
-  owned = due-owned now 0 t b.ordered
+  -- what holds of the keys that pass p holds of theirs
+  pub by_each : (P : Key → Type 0) → ((k : Key) → k.hash < top → p k ≡ true → P k) → (lo : ℕ) (t : Table) → Ordered lo t → Each (λ (d : Due). P d.key) (due_by p now t)
+  unfolding due_by
+  by_each P f lo [] o = tt
+  by_each P f lo (r ∷ t) o =
+      let rest = by_each P f (suc (place r.key)) t o.2 in
+      elim (test (p r.key)) [ inl e ↦ rw e (go rest (f r.key o.1 e) r.owner) | inr e ↦ rw e rest ]
+    where
+      go : Each (λ (d : Due). P d.key) (due_by p now t) → P r.key → (w : Option Owner) → Each (λ (d : Due). P d.key) (due_of now r.key w ++ due_by p now t)
+      go rest h none = rest
+      go rest h (some w) = elim (test (leb w.deadline now)) [ inl e ↦ rw e (h, rest) | inr e ↦ rw e rest ]
 
-  failed_at_once : fail_each now ds t ≡ dropped_all now (ready_each now ds t)
-  failed_at_once =
-      let u = ready_each now ds t in
-      fail-each now 0 ds t w b p rising keyed owned
-      ∙ ap (λ (l : List Due). gone_each l u) (sym (due_both now ds t b.filled))
-      ∙ gone_all now 0 u (ordered_each now ds t keyed b.ordered) (filled_each now ds t b.filled)
+  pub by-keyed : (lo : ℕ) (t : Table) → Ordered lo t → Keyed (due_by p now t)
+  by-keyed = by_each (λ k. k.hash < top) (λ k h e. h)
 
-  pub expired_at_once : expire m now ds t ≡ record { keys = []; table = dropped_all now (ready_each now ds t) }
-  expired_at_once = expire-each now 0 ds t w b p rising keyed owned ∙ ap (λ (x : Table). record { keys = []; table = x }) failed_at_once
+  pub by-owned : (lo : ℕ) (t : Table) → Ordered lo t → Owned t (due_by p now t)
+  unfolding due_by
+  by-owned lo [] o = tt
+  by-owned lo (r ∷ t) o =
+      let rest = owned-behind (suc (place r.key)) (due_by p now t) r t (omega arith) (by-rising (suc (place r.key)) t o.2) (by-owned (suc (place r.key)) t o.2) in
+      elim (test (p r.key)) [ inl e ↦ rw e (go rest r.owner refl) | inr e ↦ rw e rest ]
+    where
+      go : Owned (r ∷ t) (due_by p now t) → (w : Option Owner) → r.owner ≡ w → Owned (r ∷ t) (due_of now r.key w ++ due_by p now t)
+      go rest none e = rest
+      go rest (some w) e = elim (test (leb w.deadline now)) [
+        | inl l ↦ rw l (ap (λ (q : Request). owner_is w.connection q.owner) (at_here r.key r t refl) ∙ ap (owner_is w.connection) e ∙ eq-eqb w.connection w.connection refl, rest)
+        | inr l ↦ rw l rest
+      ]
 
-  pub packless_after : Packless (dropped_all now (ready_each now ds t))
-  packless_after = subst Packless failed_at_once (packless_each now 0 ds t w b p rising keyed owned)
+  gone_all : (lo : ℕ) (t : Table) → Ordered lo t → All Filled t → gone_each (due_by p now t) t ≡ dropped_by p now t
+  unfolding due_by dropped_by
+  gone_all lo [] o f = unfold gone_each in refl
+  gone_all lo (r ∷ t) o f =
+      let rest = gone_all (suc (place r.key)) t o.2 f.1 in
+      elim (test (p r.key)) [ inl e ↦ rw e (go rest r.owner refl) | inr e ↦ rw e (stays rest) ]
+    where
+      up : Rising (suc (place r.key)) (due_by p now t)
+      up = by-rising (suc (place r.key)) t o.2
+
+      stays : gone_each (due_by p now t) t ≡ dropped_by p now t → gone_each (due_by p now t) (r ∷ t) ≡ keep r r.candidates (dropped_by p now t)
+      stays rest =
+          behind (suc (place r.key)) (due_by p now t) r t (omega arith) up ∙ ap (λ (x : Table). r ∷ x) rest
+          ∙ sym (keep-filled r r.candidates (dropped_by p now t) f.0)
+
+      in_time : gone_each (due_by p now t) t ≡ dropped_by p now t → late now r.owner ≡ false
+          → gone_each (due_by p now t) (r ∷ t) ≡ keep (dropped_in now r) (dropped_in now r).candidates (dropped_by p now t)
+      in_time rest l =
+          stays rest ∙ sym (ap (λ (b : Bool). keep (if b then gone (owner_num r.owner) r else r) (if b then gone (owner_num r.owner) r else r).candidates (dropped_by p now t)) l)
+
+      go : gone_each (due_by p now t) t ≡ dropped_by p now t → (w : Option Owner) → r.owner ≡ w
+          → gone_each (due_of now r.key w ++ due_by p now t) (r ∷ t) ≡ keep (dropped_in now r) (dropped_in now r).candidates (dropped_by p now t)
+      go rest none e = in_time rest (ap (late now) e)
+      go rest (some w) e = elim (test (leb w.deadline now)) [
+        | inl l ↦ rw l (unfold gone_each in
+            (ap (gone_each (due_by p now t)) (change_first r.key (gone w.connection) r t refl)
+            ∙ behind-keep (suc (place r.key)) (due_by p now t) (gone w.connection r) (gone w.connection r).candidates t (omega arith) up
+            ∙ ap (keep (gone w.connection r) (gone w.connection r).candidates) rest
+            ∙ sym (ap (λ (x : Option Owner). keep (if late now x then gone (owner_num x) r else r) (if late now x then gone (owner_num x) r else r).candidates (dropped_by p now t)) e
+            ∙ ap (λ (b : Bool). keep (if b then gone w.connection r else r) (if b then gone w.connection r else r).candidates (dropped_by p now t)) l)))
+        | inr l ↦ rw l (in_time rest (ap (late now) e ∙ l))
+      ]
+
+  -- ---- those who are due stay so while candidates are made ready
+
+  by-ready : (v : ℕ) (k : Key) (t : Table) → All Filled t → due_by p now (change k (readied v) t) ≡ due_by p now t
+  unfolding due_by change
+  by-ready v k [] f = unfold keep in refl
+  by-ready v k (r ∷ t) f =
+      elim (test (ltb (place k) (place r.key))) [
+        | inl e ↦ rw e (unfold keep in refl)
+        | inr e ↦ rw e (elim (test (eqb (place k) (place r.key))) [
+          | inl d ↦ rw d (some r.candidates f.0)
+          | inr d ↦ rw d (ap (λ (l : List Due). here r ++ l) (by-ready v k t f.1))
+        ])
+      ]
+    where
+      some : (cs : List Candidate) → 1 ≤ length cs → due_by p now (keep (readied v r) (map (ready_at v) cs) t) ≡ here r ++ due_by p now t
+      some [] h = absurd (omega arith)
+      some (c ∷ cs) h = unfold keep in refl
+
+  pub by_both : (ds : List Due) (t : Table) → All Filled t → due_by p now (ready_each now ds t) ≡ due_by p now t
+  unfolding ready_each
+  by_both [] t f = refl
+  by_both (d ∷ ds) t f =
+      by_both ds (readied_both now d.key t) (filled_both now d.key t f)
+      ∙ by-ready now (other d.key) (change d.key (readied now) t) (filled-change d.key (readied now) t f) ∙ by-ready now d.key t f
+
+-- one after the other, or in one pass
+pub failed_by : {m : Limits} {Q : ℕ} (p : Key → Bool) (now : ℕ) (t : Table) → now < word → Bounded m Q t → Free t (due_by p now t)
+    → fail_each now (due_by p now t) t ≡ dropped_by p now (ready_each now (due_by p now t) t)
+failed_by p now t w b f =
+    let ds = due_by p now t in
+    let u = ready_each now ds t in
+    let keyed = by-keyed p now 0 t b.ordered in
+    fail-each now 0 ds t w b (by-rising p now 0 t b.ordered) keyed (by-owned p now 0 t b.ordered) f
+    ∙ ap (λ (l : List Due). gone_each l u) (sym (by_both p now ds t b.filled))
+    ∙ gone_all p now 0 u (ordered_each now ds t keyed b.ordered) (filled_each now ds t b.filled)

@@ -269,7 +269,7 @@ module _ {b f : List ℕ} {m : ℕ} {st : State} {xs : List Slot} (o : Apart b f
           let g = filter_from live (plain xs) i (blank 0 0) (omega (arith, ap length o.lives)) in
           x g.index (blank 0 0) g.inside g.passes (ap (λ (p : Place). p.hash) g.is ∙ ap (λ (l : List Place). (get_or l i (blank 0 0)).hash) o.lives ∙ z)
 
-  free : has_place (at k t) ≡ false
+  pub free : has_place (at k t) ≡ false
   free = missing k.kind refl
 
   calm : enqueued_in (at k t).«package» ≡ false

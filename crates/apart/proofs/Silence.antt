@@ -1,89 +1,36 @@
--- Every owner that is due expires, where no place is set apart: one pass over the rows comes to the same.
+-- A run of owners without a place whose time is over: their rows taken out of the front of the store, in one pass, are all that they leave.
 use Prim.Native.Nat.{ℕ, ◌<◌}
-use mathlib.Core.Path.{◌≡◌, refl, sym, ap, subst, ◌∙◌}
+use mathlib.Core.Path.{◌≡◌, refl, sym, subst, ◌∙◌}
 use mathlib.Core.Bool.{Bool, true, false}
-use mathlib.Core.List.{List, [], ◌∷◌, ◌++◌}
+use mathlib.Core.List.{List, [], ◌∷◌}
 use mathlib.Core.Option.{Option, none, some}
 use native.Mathlib.Omega.{arith}
 use lib.ListN.{length, take, drop}
-use Rattle.ident.specs.declared.Kind.{Kind}
-use Rattle.ident.specs.declared.Kind.TheVariants.{Txid, Wtxid}
-use Rattle.ident.specs.Number.{top, Key, other}
-use Rattle.regions.specs.Regions.{each}
-use Rattle.places.specs.Places.{blank}
+use Rattle.ident.specs.Number.{Key, other}
 use Rattle.machine.specs.Limits.{word}
-use Rattle.machine.specs.State.{Owner, Package, Request, Table, State, limits_of, on_table, is_some}
+use Rattle.machine.specs.State.{Package, Request, Table, State, limits_of, on_table}
 use Rattle.machine.specs.State as machine
 use Rattle.machine.specs.Table.{at, change}
-use Rattle.machine.specs.Fail.{Listed}
-use Rattle.machine.specs.Plan.{Due, expired}
-use Rattle.machine.specs.Sound.{Ordered, All, Packed, Lawful, Sound}
+use Rattle.machine.specs.Plan.{Due}
+use Rattle.machine.specs.Sound.{Ordered}
+use Rattle.machine.specs.Typed.{Each}
 use Rattle.machine.proofs.Kept.{sound-table}
-use Rattle.machine.proofs.Plan.{bounded-expired}
-use Rattle.machine.proofs.Table.{all_at, all_change, lawful_at, ordered-change}
-use Rattle.machine.proofs.Tests.{never, or_left, or_right}
-use Rattle.store.specs.Flat.{place_for, places_for, places_of}
+use Rattle.machine.proofs.Table.{all_at, all_change, ordered-change}
+use Rattle.store.specs.Flat.{place_for, places_for}
 use Rattle.store.specs.Image.{Writes}
-use Rattle.package_stages.specs.Changes.{closed, has_place}
-use Rattle.package_stages.specs.Dead.{filter, live}
-use Rattle.package_stages.proofs.Seeking.{place-free}
-use Rattle.requests.specs.Changes.{Makes}
 use Rattle.handing.specs.Hands.{readied}
 use Rattle.apart.specs.Bare.{bare, bare_state}
-use Rattle.apart.specs.Apart.{Slot, plain, Apart}
-use Rattle.apart.specs.Silent.{readied_both, ready_each, silenced, Placeless}
-use Rattle.apart.proofs.BareTable.{sound-bare}
-use Rattle.apart.proofs.BarePlaces.{all_from_at, no_place, txid-free}
-use Rattle.apart.proofs.Overdue.{front_is, rest_stays, slots_rest}
-use Rattle.apart.proofs.OneOwner.{front_within}
-use Rattle.apart.proofs.Dropping.{Keyed, Unheld, Packless, ordered_both, expired_at_once, packless_after}
-
--- ---- a request without flag and package
-
-unheld : (r : Request) → has_place r ≡ false → Unheld r
-unheld r e = record { flag = or_left r.info (is_some r.«package») e; nothing = none_there r.«package» (or_right r.info (is_some r.«package») e) }
-  where
-    none_there : (p : Option Package) → is_some p ≡ false → p ≡ none
-    none_there none e = refl
-    none_there (some p) e = never (sym e)
-
-unplaced : (r : Request) → Unheld r → has_place r ≡ false
-unplaced r u = rw (u.flag, u.nothing) refl
-
-closed_same : (r : Request) → Lawful r → Unheld r → closed r ≡ r
-closed_same r l u =
-    let childless : r.parents ≡ [] = go r.info r.«package» u.flag u.nothing l.packed in
-    let mk : Bool → Option Package → List ℕ → Request =
-    λ a p hs. record { key = r.key; candidates = r.candidates; owner = r.owner; info = a; «package» = p; parents = hs; fallback = r.fallback } in
-    ap (λ (a : Bool). mk a none []) (sym u.flag) ∙ ap (λ (p : Option Package). mk r.info p []) (sym u.nothing) ∙ ap (mk r.info r.«package») (sym childless)
-  where
-    go : (i : Bool) (p : Option Package) → i ≡ false → p ≡ none → Packed r.key.kind r.owner i p r.parents → r.parents ≡ []
-    go true p e f x = never (sym e)
-    go false (some p) e f x = let z : ◌≡◌ {A = ℕ} 0 1 = cc in absurd (omega arith)
-    go false none e f x = x
-
--- ---- a table without them
-
-bare_each : (t : Table) → All (λ (r : Request). closed r ≡ r) t → bare t ≡ t
-unfolding bare
-bare_each [] a = refl
-bare_each (r ∷ t) a = rw (a.0, bare_each t a.1)
+use Rattle.apart.specs.Apart.{Slot, plain, SpotNone, Apart}
+use Rattle.apart.specs.Silent.{readied_both, ready_each, fail_each, due_by, dropped_by, Placeless, UnburdenedBy}
+use Rattle.apart.proofs.BareTable.{ordered-bare}
+use Rattle.apart.proofs.Overdue.{slots_rest}
+use Rattle.apart.proofs.OneOwner.{free}
+use Rattle.apart.proofs.Dropping.{Keyed, Owned, Free, ordered_both, by-keyed, by-owned}
+use Rattle.apart.proofs.InTurn.{Went, went_by, bare_in-one}
 
 blank_none : (j : Key) → places_for (machine.blank j) ≡ []
 unfolding places_for
 blank_none j = refl
-
-module _ (t : Table) (o : Ordered 0 t) (p : Packless t) where
-  bare_same : All Lawful t → bare t ≡ t
-  bare_same l = bare_each t (all_from_at (λ (r : Request). closed r ≡ r) 0 t o (λ j. refl) (λ j s. closed_same (at j t) (lawful_at j t l) (p j s)))
-
-  placeless : Placeless t
-  placeless = all_from_at (λ (r : Request). places_for r ≡ []) 0 t o blank_none (λ j s. place-free (at j t) (unplaced (at j t) (p j s)))
-
-none_held : (t : Table) → Placeless t → places_of t ≡ []
-unfolding each
-none_held [] a = refl
-none_held (r ∷ t) a = rw (a.0, none_held t a.1)
 
 -- ---- candidates made ready keep it so
 
@@ -109,61 +56,51 @@ placeless_each now (d ∷ ds) t k o a =
     placeless_each now ds (readied_both now j t) k.1 (ordered_both now j t k.0 o)
     (placeless_ready now (other j) (change j (readied now) t) o₁ (placeless_ready now j t o a))
 
--- ---- all of them, where there are no places
+bare_placeless : (t : Table) → Placeless (bare t)
+unfolding bare places_for
+bare_placeless [] = tt
+bare_placeless (r ∷ t) = (refl, bare_placeless t)
 
-no-places : (xs : List Slot) → length xs ≡ 0 → filter live (plain xs) ≡ []
-unfolding filter
-no-places [] e = refl
-no-places (x ∷ xs) e = absurd (omega arith)
+unburdened_by : (p : Key → Bool) (now : ℕ) (t : Table) → Placeless t → UnburdenedBy p now t
+unburdened_by p now [] a = tt
+unburdened_by p now (r ∷ t) a = (λ e. a.0, unburdened_by p now t a.1)
 
-module _ {b f : List ℕ} {m : ℕ} {st : State} {xs : List Slot} (o : Apart b f m st xs) (few : length xs ≡ 0) {now : ℕ} (w : now < word) where
+-- ---- a run
+
+module _ {b f : List ℕ} {m : ℕ} {st : State} {xs : List Slot} (o : Apart b f m st xs) (p : Key → Bool) {now : ℕ} (w : now < word) where
   abbrev t : Table
   t = st.table
 
-  empty : places_of t ≡ []
-  empty = sym o.lives ∙ no-places xs few
+  abbrev ds : List Due
+  ds = due_by p now t
 
-  free : (j : Key) → j.hash < top → has_place (at j t) ≡ false
-  free j s = by_kind j.kind refl
-    where
-      by_kind : (x : Kind) → j.kind ≡ x → has_place (at j t) ≡ false
-      by_kind Txid e = txid-free t o.sound.bounded.ordered o.sound.bounded.lawful j s e (lawful_at j t o.sound.bounded.lawful)
-      by_kind Wtxid e =
-          ap (λ (x : Kind). has_place (at (record { kind = x; hash = j.hash }) t)) e
-          ∙ no_place t o.sound.bounded.ordered o.sound.bounded.lawful j.hash (blank 0 0) s (λ i l z. omega (arith, ap length empty))
+  -- in the front there are no places at all
+  pub front_unburdened : UnburdenedBy p now (ready_each now ds (bare t))
+  front_unburdened =
+      let k = o.sound.bounded.ordered in
+      unburdened_by p now _ (placeless_each now ds (bare t) (by-keyed p now 0 t k) (ordered-bare 0 t k) (bare_placeless t))
 
-  packless : Packless t
-  packless j s = unheld (at j t) (free j s)
+  module _ (alone : Each (λ (d : Due). SpotNone (plain xs) d.key) ds) where
+    all_free : (es : List Due) → Keyed es → Owned t es → Each (λ (d : Due). SpotNone (plain xs) d.key) es → Free t es
+    all_free [] k y z = tt
+    all_free (d ∷ es) k y z = (free o d.key d.connection now w k.0 y.0 z.0, all_free es k.1 y.1 z.1)
 
-  pub silent_is : expired now st ≡ record { keys = []; table = silenced now t }
-  silent_is = expired_at_once now t w o.sound.bounded packless
+    run_free : Free t ds
+    run_free = let k = o.sound.bounded.ordered in all_free ds (by-keyed p now 0 t k) (by-owned p now 0 t k) alone
 
-  after : Sound (on_table (silenced now t) st)
-  after = subst (λ (x : Listed). Sound (on_table x.table st)) silent_is (sound-table o.sound (bounded-expired now st w o.sound))
+    pub run_went : Went (limits_of st) st.places now t ds
+    run_went = went_by p now t w o.sound.bounded run_free
 
-  none_after : Packless (silenced now t)
-  none_after = packless_after now t w o.sound.bounded packless
-
-  same : bare t ≡ t
-  same = bare_same t o.sound.bounded.ordered packless o.sound.bounded.lawful
-
-  same_after : bare (silenced now t) ≡ silenced now t
-  same_after = bare_same (silenced now t) after.bounded.ordered none_after after.bounded.lawful
-
-  pub silent-apart : {v b' : List ℕ} → length v ≡ length (take m b) → Makes (take m b) v Placeless (silenced now) → length b' ≡ length b
-      → b' ≡ v ++ drop m b → Apart b' f m (on_table (expired now st).table st) xs
-  silent-apart {v} {b'} nv makes nb e = subst (λ (x : Listed). Apart b' f m (on_table x.table st) xs) (sym silent_is) (record {
-    sound = after;
-    size = o.size;
-    long = nb ∙ o.long;
-    first_long = o.first_long;
-    writes =
-        let p = subst Placeless (sym same) (placeless t o.sound.bounded.ordered packless) in
-        let a = makes (bare_state st) (sound-bare o.sound) o.writes p in
-        subst (λ (y : List ℕ). Writes y (bare_state (on_table (silenced now t) st))) (sym (ap (take m) e ∙ front_is b v m (front_within o) nv))
-        (subst (λ (x : Table). Writes v (on_table x (bare_state st))) (ap (silenced now) same ∙ sym same_after) a);
-    slots = slots_rest (ap (drop m) e ∙ rest_stays b v m (front_within o) nv) o.slots;
-    lives = no-places xs few ∙ sym (none_held (silenced now t) (placeless (silenced now t) after.bounded.ordered none_after));
-    ascend = o.ascend;
-    short = o.short;
-  })
+    pub run_apart : {b' : List ℕ} → length b' ≡ length b → drop m b' ≡ drop m b → Writes (take m b') (on_table (dropped_by p now (ready_each now ds (bare t))) (bare_state st))
+        → Apart b' f m (on_table (fail_each now ds t) st) xs
+    run_apart {b'} n rest g = record {
+      sound = sound-table o.sound run_went.bounded;
+      size = o.size;
+      long = n ∙ o.long;
+      first_long = o.first_long;
+      writes = subst (λ (x : Table). Writes (take m b') (on_table x (bare_state st))) (bare_in-one p now t w o.sound.bounded run_free) g;
+      slots = slots_rest rest o.slots;
+      lives = o.lives ∙ sym run_went.places;
+      ascend = o.ascend;
+      short = o.short;
+    }

@@ -27,10 +27,13 @@ use Rattle.parenting.specs.Displacing.{Spent, Exhausted}
 use Rattle.apart.specs.Lapsing.{noted, ClearAt, Expires}
 use Rattle.apart.proofs.SlotWords.{plain-long, plain_rest}
 use Rattle.apart.proofs.BareTable.{victims-bare, sound-bare}
+use Rattle.apart.specs.Silent.{within, fail_each}
 use Rattle.apart.proofs.OneOwner.{noted_none}
+use Rattle.apart.proofs.Silence.{run_went}
 use Rattle.failing.proofs.Leaving.{told}
-use Rattle.planning.specs.Expiring.{expire_one, due_from, DueNext, ExpiresAll}
+use Rattle.planning.specs.Expiring.{expire_one, due_from, due_run, DueNext, RunExpires, ExpiresAll}
 use Rattle.planning.proofs.BareDue.{due_from_bare}
+use Rattle.planning.proofs.Runs.{expiring_run}
 use Rattle.planning.proofs.Overdue.{due_cases, due_first, Expiring, expiring_start, expiring_end, expiring_more}
 
 place_base : (t : Kind) (h : ℕ) → h < top → base t + h < top + top
@@ -130,6 +133,25 @@ way_goes {b' = b'} {f' = f'} {m} {c} {now} {x} {k} {n} w a next one st ps o coun
       later = λ j d h l. y.later here j d h (omega arith);
       few = y.few here g.few;
       none_left = y.none_left;
+    }
+
+-- a run on the way
+pub way_run : {b₀ b b' f₀ f : List ℕ} {m c now x y : ℕ} {q : Progress} → now < word → AllOnTheWay b₀ b f₀ f m c now x q → RunExpires b b' f m c now x y
+    → AllOnTheWay b₀ b' f₀ f m c now y q
+way_run {now = now} {x} {y} w a run st ps o count =
+    let g = a st ps o count in
+    let t = g.table in
+    let z = run.goes (on_table t st) g.places g.apart (count ∙ same_long ps g.places g.hashes_same) in
+    let went = run_went g.apart (within x y) w z.alone in
+    record {
+      table = fail_each now (due_run now x y t) t;
+      places = g.places;
+      apart = z.apart;
+      hashes_same = g.hashes_same;
+      going = expiring_run went run.least g.apart.sound.bounded.ordered g.going;
+      later = λ j d h l. g.later j d h (omega (arith, run.least));
+      few = g.few;
+      none_left = λ i. went.spent (g.none_left i);
     }
 
 pub way-ends : {b₀ b f₀ f : List ℕ} {m c now x : ℕ} {q : Progress} → q.noted ≤ c → AllOnTheWay b₀ b f₀ f m c now x q → Tells (take m b) (λ t. due_from now x t ≡ [])

@@ -3,7 +3,9 @@ pub mod BareDue
 pub mod RowsDue
 pub mod NextDue
 pub mod Notings
+pub mod Runs
 pub mod AllExpired
 pub mod Readying
+pub mod RunRows
 pub mod Whole
 pub mod Planned

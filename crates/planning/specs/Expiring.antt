@@ -1,5 +1,5 @@
 -- What the contracts of a plan's expired owners say.
-use Rattle.std.specs.Prelude.{ℕ, suc, ◌+◌, ◌≤◌, ◌<◌, ◌≡◌, true, List, [], ◌∷◌, ◌++◌, leb, length, get_or, drop, if◌then◌else◌}
+use Rattle.std.specs.Prelude.{ℕ, suc, ◌+◌, ◌≤◌, ◌<◌, ◌≡◌, true, List, [], ◌∷◌, ◌++◌, leb, length, get_or, take, drop, if◌then◌else◌}
 use Rattle.std.specs.Prelude as rust
 use Rattle.ident.specs.Number.{top, Key, place}
 use Rattle.ident.specs.Words.{key_num}
@@ -8,18 +8,19 @@ use Rattle.machine.specs.Limits.{Limits}
 use Rattle.machine.specs.State.{Request, Table, State, on_table}
 use Rattle.machine.specs.Table.{at}
 use Rattle.machine.specs.Fail.{Listed, failed, announce_parents, parents_for}
-use Rattle.machine.specs.Plan.{Due, due_of, due, expired}
-use Rattle.machine.specs.Sound.{Sound}
+use Rattle.machine.specs.Plan.{Due, due_of, expired}
+use Rattle.machine.specs.Typed.{Each}
 use Rattle.store.specs.Flat.{Flat}
 use Rattle.store.specs.Gather.{key_at}
-use Rattle.store.specs.Image.{Shows}
+use Rattle.store.specs.Image.{Shows, Writes}
 use Rattle.store.specs.Shown.{rows_in}
-use Rattle.requests.specs.Changes.{Makes, Tells}
+use Rattle.requests.specs.Changes.{Tells}
 pub use Rattle.sweeping.specs.Batches.{behind, BeginsAt}
 use Rattle.places.specs.Places.{Place}
-use Rattle.apart.specs.Apart.{Slot, resting, ClearFrom, Apart}
+use Rattle.apart.specs.Bare.{bare, bare_state}
+use Rattle.apart.specs.Apart.{Slot, resting, plain, ClearFrom, SpotNone, Apart}
 use Rattle.apart.specs.Lapsing.{noted}
-use Rattle.apart.specs.Silent.{ready_each, is_due}
+use Rattle.apart.specs.Silent.{within, due_by, fail_each, ready_each, is_due}
 use Rattle.planning.specs.declared.expiring.Overdue.{Overdue}
 
 -- one owner whose time is over: it fails, and its parents are announced for it
@@ -65,12 +66,38 @@ pub record NextDue (b : List ℕ) (now x : ℕ) (o : rust.Option Overdue) : Type
   pub ends : o ≡ rust.None → Tells b (λ t. due_from now x t ≡ [])
   pub goes : (w : Overdue) → o ≡ rust.Some w → DueNext b now x (key_num w.key) w.connection
 
--- ---- all that are due, where there are no places
+-- ---- a run: those that are due before the first that has a place
 
--- the candidates beside each of them are ready, under both kinds
-pub record MadeReady (b b' : List ℕ) (now : ℕ) : Type 0 where
-  pub sound : (st : State) → Sound st → Sound (on_table (ready_each now (due now st.table) st.table) st)
-  pub table : Makes b b' (λ t. Unit {0}) (λ t. ready_each now (due now t) t)
+-- at the keys from the place x on, before the place y
+abbrev pub due_run : ℕ → ℕ → ℕ → Table → List Due
+due_run now x y t = due_by (within x y) now t
+
+-- none of them has a place; the candidates beside each are ready, under both kinds
+pub record RunReady (b' : List ℕ) (m now x y : ℕ) (st : State) (xs : List Slot) : Type 0 where
+  pub alone : Each (λ d. SpotNone (plain xs) d.key) (due_run now x y st.table)
+  pub writes : Writes (take m b') (on_table (ready_each now (due_run now x y st.table) (bare st.table)) (bare_state st))
+
+pub record RunReadies (b b' f : List ℕ) (m c now x y : ℕ) : Type 0 where
+  pub least : x ≤ y
+  pub most : y ≤ top + top
+  pub rest : drop m b' ≡ drop m b
+  pub readies : (st : State) (xs : List Slot) → Apart b f m st xs → c ≡ length xs → RunReady b' m now x y st xs
+
+-- they have failed
+pub record RunExpired (b' f : List ℕ) (m now x y : ℕ) (st : State) (xs : List Slot) : Type 0 where
+  pub alone : Each (λ d. SpotNone (plain xs) d.key) (due_run now x y st.table)
+  pub apart : Apart b' f m (on_table (fail_each now (due_run now x y st.table) st.table) st) xs
+
+pub record RunExpires (b b' f : List ℕ) (m c now x y : ℕ) : Type 0 where
+  pub least : x ≤ y
+  pub most : y ≤ top + top
+  pub goes : (st : State) (xs : List Slot) → Apart b f m st xs → c ≡ length xs → RunExpired b' f m now x y st xs
+
+-- a run has failed, and o is the first that is due behind it
+pub record HeldNext (b b' f : List ℕ) (m c now x : ℕ) (o : rust.Option Overdue) : Type 0 where
+  pub to : ℕ
+  pub run : RunExpires b b' f m c now x to
+  pub next : NextDue (take m b') now to o
 
 -- ---- all that are due, where the places are set apart
 

@@ -1,11 +1,11 @@
--- `planning::expiring::expire_each` meets its contract.
+-- `planning::expiring::expire` meets its contract.
 use Prim.Native.Nat.{◌+◌, ◌-◌, ◌≤◌}
 use mathlib.Core.Path.{◌≡◌}
 use lib.ListN.{length}
 use Rattle.ident.specs.Number.{top}
 use Rattle.planning.proofs.AllExpired.{AllOnTheWay}
 use Rattle.planning.specs.Expiring.{behind}
-use Rattle.planning.proofs.expiring.expire_each.Given as goal
+use Rattle.planning.proofs.expiring.expire.Given as goal
 
 abbrev pub invariant-loop-due : goal.invariant-loop-due
 invariant-loop-due l = (length l.s ≡ length l.initial.s) × (behind l.last ≤ top + top) × (l.known.noted ≤ l.c)
