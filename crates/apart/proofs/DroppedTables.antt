@@ -23,6 +23,7 @@ use Rattle.machine.specs.Sound.{All, Filled, Sound}
 use Rattle.machine.proofs.Tests.{test, never, and_left}
 use Rattle.store.specs.Flat.{own_bit, bits_of, witness_bit, deadline_for, row_of, rows_for, rows_of, places_for, places_of, tally}
 use Rattle.store.specs.FlatSound.{owns}
+use Rattle.store.specs.Gather.{key_at}
 use Rattle.store.specs.Image.{Writes}
 use Rattle.store.proofs.Bits.{key_row, owns-row}
 use Rattle.store.proofs.Counts.{Distinct, DistinctIn, in_hasnt, distinct_in}
@@ -31,7 +32,23 @@ use Rattle.requests.proofs.Keeping.{writes_by}
 use Rattle.announcing.specs.Drops.{kept_row}
 use Rattle.announcing.proofs.DroppingRows.{row_goes, row_stays}
 use Rattle.apart.specs.Silent.{owner_num}
-use Rattle.apart.specs.Silent.{late, gone, dropped_in, dropped_all, Unburdened, is_due, due_row, dropped_at, dropped_by, UnburdenedBy}
+use Rattle.apart.specs.Silent.{late, gone, dropped_in, dropped_all, Unburdened, is_due}
+
+-- ---- the owners at the keys that pass p
+
+abbrev pub dropped_at : (Key → Bool) → ℕ → Request → Request
+dropped_at p now r = if p r.key && late now r.owner then gone (owner_num r.owner) r else r
+
+unfoldable pub dropped_by : (Key → Bool) → ℕ → Table → Table
+dropped_by p now [] = []
+dropped_by p now (r ∷ t) = keep (dropped_at p now r) (dropped_at p now r).candidates (dropped_by p now t)
+
+-- who is late there has no place
+abbrev pub UnburdenedBy : (Key → Bool) → ℕ → Table → Type 0
+UnburdenedBy p now t = All (λ r. (p r.key && late now r.owner) ≡ true → places_for r ≡ []) t
+
+abbrev pub due_row : (Key → Bool) → ℕ → Row → Bool
+due_row p now r = p (key_at r) && is_due now r
 
 -- a row that goes owns its request
 pub due-owns : (now : ℕ) (r : Row) {y : Bool} → y ≡ is_due now r → y ≡ true → 1 ≡ own_bit r
@@ -136,7 +153,7 @@ module _ (now : ℕ) where
   unfolding kept_row
   kept_as f g r e = ap (λ (b : Bool). if b then [] else r ∷ []) e
 
-  -- ---- the owners at the keys that pass p
+  -- ---- at the keys that pass p
 
   module _ (p : Key → Bool) where
     at-key : (q : Request) (b : Bool) → p q.key ≡ b → (cs : List Candidate)

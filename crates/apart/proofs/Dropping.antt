@@ -39,8 +39,9 @@ use Rattle.failing.proofs.Fusing.{GivesNone, change_fuse, change_same}
 use Rattle.failing.proofs.Leaving.{without-ready}
 use Rattle.handing.specs.Hands.{readied}
 use Rattle.announcing.proofs.Swapping.{change-swap}
-use Rattle.apart.specs.Silent.{fail_each, readied_both, ready_each, late, gone, dropped_in, due_by, dropped_by}
+use Rattle.apart.specs.Silent.{fail_each, readied_both, ready_each, late, gone, dropped_in, due_by}
 use Rattle.apart.proofs.Overdue.{none_packaged}
+use Rattle.apart.proofs.DroppedTables.{dropped_by}
 
 -- ---- dropping one and readying, in either order
 
@@ -218,7 +219,7 @@ unfolding ready_each
 ordered_each now [] t a o = o
 ordered_each now (d ∷ ds) t a o = ordered_each now ds (readied_both now d.key t) a.1 (ordered_both now d.key t a.0 o)
 
-pub filled_each : (now : ℕ) (ds : List Due) (t : Table) → All Filled t → All Filled (ready_each now ds t)
+filled_each : (now : ℕ) (ds : List Due) (t : Table) → All Filled t → All Filled (ready_each now ds t)
 unfolding ready_each
 filled_each now [] t f = f
 filled_each now (d ∷ ds) t f = filled_each now ds (readied_both now d.key t) (filled_both now d.key t f)
@@ -321,7 +322,7 @@ module _ (p : Key → Bool) (now : ℕ) where
       some [] h = absurd (omega arith)
       some (c ∷ cs) h = unfold keep in refl
 
-  pub by_both : (ds : List Due) (t : Table) → All Filled t → due_by p now (ready_each now ds t) ≡ due_by p now t
+  by_both : (ds : List Due) (t : Table) → All Filled t → due_by p now (ready_each now ds t) ≡ due_by p now t
   unfolding ready_each
   by_both [] t f = refl
   by_both (d ∷ ds) t f =

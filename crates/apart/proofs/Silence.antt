@@ -12,7 +12,7 @@ use Rattle.machine.specs.State.{Package, Request, Table, State, limits_of, on_ta
 use Rattle.machine.specs.State as machine
 use Rattle.machine.specs.Table.{at, change}
 use Rattle.machine.specs.Plan.{Due}
-use Rattle.machine.specs.Sound.{Ordered}
+use Rattle.machine.specs.Sound.{Ordered, All}
 use Rattle.machine.specs.Typed.{Each}
 use Rattle.machine.proofs.Kept.{sound-table}
 use Rattle.machine.proofs.Table.{all_at, all_change, ordered-change}
@@ -21,12 +21,17 @@ use Rattle.store.specs.Image.{Writes}
 use Rattle.handing.specs.Hands.{readied}
 use Rattle.apart.specs.Bare.{bare, bare_state}
 use Rattle.apart.specs.Apart.{Slot, plain, SpotNone, Apart}
-use Rattle.apart.specs.Silent.{readied_both, ready_each, fail_each, due_by, dropped_by, Placeless, UnburdenedBy}
+use Rattle.apart.specs.Silent.{readied_both, ready_each, fail_each, due_by}
 use Rattle.apart.proofs.BareTable.{ordered-bare}
 use Rattle.apart.proofs.Overdue.{slots_rest}
 use Rattle.apart.proofs.OneOwner.{free}
+use Rattle.apart.proofs.DroppedTables.{dropped_by, UnburdenedBy}
 use Rattle.apart.proofs.Dropping.{Keyed, Owned, Free, ordered_both, by-keyed, by-owned}
 use Rattle.apart.proofs.InTurn.{Went, went_by, bare_in-one}
+
+-- no request has a place
+abbrev Placeless : Table → Type 0
+Placeless t = All (λ r. places_for r ≡ []) t
 
 blank_none : (j : Key) → places_for (machine.blank j) ≡ []
 unfolding places_for
@@ -47,7 +52,7 @@ placeless_ready : (now : ℕ) (k : Key) (t : Table) → Ordered 0 t → Placeles
 placeless_ready now k t o a =
     all_change (λ (r : Request). places_for r ≡ []) k (readied now) 0 t o (ready_none now (at k t) (all_at (λ (r : Request). places_for r ≡ []) k t (blank_none k) a)) a
 
-pub placeless_each : (now : ℕ) (ds : List Due) (t : Table) → Keyed ds → Ordered 0 t → Placeless t → Placeless (ready_each now ds t)
+placeless_each : (now : ℕ) (ds : List Due) (t : Table) → Keyed ds → Ordered 0 t → Placeless t → Placeless (ready_each now ds t)
 unfolding ready_each
 placeless_each now [] t k o a = a
 placeless_each now (d ∷ ds) t k o a =

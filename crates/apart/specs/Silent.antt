@@ -12,7 +12,6 @@ use Rattle.machine.specs.Plan.{Due, due_of}
 use Rattle.machine.specs.Sound.{All, Sound}
 use Rattle.store.specs.Flat.{places_for, rows_of}
 use Rattle.store.specs.FlatSound.{owns}
-use Rattle.store.specs.Gather.{key_at}
 use Rattle.store.specs.Image.{Writes}
 use Rattle.store.specs.Shown.{rows_in}
 use Rattle.requests.specs.Changes.{Shorn}
@@ -54,10 +53,6 @@ unfoldable pub dropped_all : ℕ → Table → Table
 dropped_all now [] = []
 dropped_all now (r ∷ t) = keep (dropped_in now r) (dropped_in now r).candidates (dropped_all now t)
 
--- no request has a place
-abbrev pub Placeless : Table → Type 0
-Placeless t = All (λ r. places_for r ≡ []) t
-
 -- who is late has no place
 abbrev pub Unburdened : ℕ → Table → Type 0
 Unburdened now t = All (λ r. late now r.owner ≡ true → places_for r ≡ []) t
@@ -72,25 +67,11 @@ unfoldable pub due_by : (Key → Bool) → ℕ → Table → List Due
 due_by p now [] = []
 due_by p now (r ∷ t) = (if p r.key then due_of now r.key r.owner else []) ++ due_by p now t
 
-abbrev pub dropped_at : (Key → Bool) → ℕ → Request → Request
-dropped_at p now r = if p r.key && late now r.owner then gone (owner_num r.owner) r else r
-
-unfoldable pub dropped_by : (Key → Bool) → ℕ → Table → Table
-dropped_by p now [] = []
-dropped_by p now (r ∷ t) = keep (dropped_at p now r) (dropped_at p now r).candidates (dropped_by p now t)
-
-abbrev pub UnburdenedBy : (Key → Bool) → ℕ → Table → Type 0
-UnburdenedBy p now t = All (λ r. (p r.key && late now r.owner) ≡ true → places_for r ≡ []) t
-
 -- ---- rows
 
 -- the row says an owner whose time is over
 abbrev pub is_due : ℕ → Row → Bool
 is_due now r = owns r && leb r.deadline now
-
--- and stands at such a key
-abbrev pub due_row : (Key → Bool) → ℕ → Row → Bool
-due_row p now r = p (key_at r) && is_due now r
 
 -- the i-th row r is put at m, or goes, by each test that says of it whether its owner's time is over
 abbrev pub RowDropped : List ℕ → List ℕ → Row → ℕ → ℕ → ℕ → ℕ → Type 0

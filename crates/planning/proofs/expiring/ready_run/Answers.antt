@@ -27,7 +27,8 @@ loop-due-preserved c =
     let g = c.next_due.ensures.goes c.in-Some.due c.in-Some.is in
     let long : length (c.ready_both.new.s ++ drop c.args.m c.loop-due.s) ≡ length c.loop-due.s = search rules in (
       long ∙ c.loop-due.invariant.0,
-      run_goes late c.loop-due.invariant.0 c.loop-due.invariant.1 g c.find.ensures (none_found c.find.result (sym c.is_some.ensures ∙ c.if-is_some.false)) c.ready_both.auto.s c.ready_both.ensures refl c.requires.0,
+      run_goes late c.loop-due.invariant.0 c.loop-due.invariant.1 g c.find.ensures
+          (none_found c.find.result (sym c.is_some.ensures ∙ c.if-is_some.false)) c.ready_both.auto.s c.ready_both.ensures refl c.requires.0,
     )
 
 pub returns-then-is_some : goal.returns-then-is_some
