@@ -1,7 +1,7 @@
 -- A line that is passed: where the next one begins, and what its first byte tells.
 use Prim.Native.Nat.{ℕ, ◌+◌, ◌-◌, ◌<◌, ◌≤◌}
 use mathlib.Core.Path.{◌≡◌, refl, sym, ap, subst, ◌∙◌}
-use mathlib.Core.Bool.{Bool, true, false}
+use mathlib.Core.Bool.{Bool, true}
 use mathlib.Core.List.{List, [], ◌∷◌}
 use mathlib.Core.Option.{Option, none, some}
 use mathlib.Core.Logic.{inl, inr}
@@ -11,10 +11,10 @@ use lib.ListN.{length, take, drop, length-drop}
 use borrow.Author.Tests.{eqb-true, eqb-false}
 use Rattle.ident.specs.declared.Kind.{Kind}
 use Rattle.ident.specs.declared.Kind.TheVariants.{Txid, Wtxid}
-use Rattle.machine.specs.State.{Candidate, Request, is_some, with_candidates}
+use Rattle.machine.specs.State.{is_some, with_candidates}
 use Rattle.machine.specs.Text.{kind_letter}
 use Rattle.machine.specs.Claim.{same_kind}
-use Rattle.machine.specs.Fields.{before, fields, rest}
+use Rattle.machine.specs.Fields.{before, fields}
 use Rattle.machine.specs.Listing.{Line, HeadLine, RequestLine, CandidateLine, Rest, short, falls, key_field, request_fields, candidate_then, request_then, rest_of, line_of}
 use Rattle.machine.proofs.Tests.{test, never}
 use Rattle.machine.proofs.Parting.{take-before, before-length}
@@ -26,7 +26,7 @@ use Rattle.listed_lines.specs.Given.{lines_of_text}
 use Rattle.listed_lines.proofs.Starts.{keyed-no-candidate}
 use Rattle.listed_lines.proofs.Ends.{no_end, line-ends}
 use Rattle.listed_form.proofs.Stepping.{parted, AfterCandidate, AfterRequest}
-use Rattle.listed_pairs.specs.Given.{starts_wtxid, Tells, Begun, LinePassed}
+use Rattle.listed_pairs.specs.Given.{starts_wtxid, Tells, LinePassed}
 
 -- ---- the letter
 

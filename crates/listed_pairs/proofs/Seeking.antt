@@ -44,9 +44,6 @@ pub wtxid-kind : (k : Kind) → same_kind k Wtxid ≡ true → k ≡ Wtxid
 wtxid-kind Wtxid e = refl
 wtxid-kind Txid e = never e
 
-pub search-begin : {b : List ℕ} {from : ℕ} → Searched b from from
-search-begin = record { is = λ t y o f. record { left = requests_only t; body = y; ordered = o; few = f; same = λ h. refl } }
-
 module _ {b : List ℕ} {from i : ℕ} (u : Searched b from i) where
   module _ {end : ℕ} (p : LinePassed b i end) {x : Bool} (z : x ≡ starts_wtxid (drop i b)) where
     pub search_on : x ≡ false → Searched b from end

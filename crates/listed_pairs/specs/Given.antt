@@ -1,6 +1,6 @@
 -- What the contracts of the pass over the hashes under both kinds say.
 use Rattle.std.specs.Prelude.{ℕ, ◌+◌, ◌<◌, ◌≤◌, ◌≡◌, Bool, true, false, not, ◌&&◌, List, [], ◌∷◌, ◌++◌, length, drop, eqb, is_some}
-use Rattle.std.proofs.Math.Option.{Option, none, some}
+use Rattle.std.proofs.Math.Option.{some}
 use Rattle.ident.specs.declared.Kind.TheVariants.{Wtxid}
 use Rattle.ident.specs.Number.{top, wtxid}
 use Rattle.machine.specs.Limits.{max_alternates}

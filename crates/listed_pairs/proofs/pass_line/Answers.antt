@@ -1,7 +1,5 @@
 -- `listed_pairs::pass_line` meets its contract.
-use Prim.Native.Nat.{◌≤◌}
 use native.Mathlib.Omega.{arith}
-use lib.ListN.{length}
 use Rattle.machine.proofs.Parting.{end_most}
 use Rattle.listed_pairs.proofs.Passing.{passed_none, passed-is}
 use Rattle.listed_pairs.proofs.pass_line.Goals as goal
