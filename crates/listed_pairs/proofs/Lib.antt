@@ -1,4 +1,5 @@
 pub mod Facing
+pub mod Passing
 pub mod Seeking
 pub mod Skipping
 pub mod Pairing

@@ -1,11 +1,10 @@
 -- The first Wtxid request, sought line by line.
 use Prim.Native.Nat.{ℕ, ◌+◌, ◌≤◌}
-use mathlib.Core.Path.{◌≡◌, refl, sym, ap, ◌∙◌}
+use mathlib.Core.Path.{◌≡◌, refl, sym, ap, subst, ◌∙◌}
 use mathlib.Core.Bool.{Bool, true, false}
 use mathlib.Core.List.{List, [], ◌∷◌}
-use mathlib.Core.Option.{Option, none, some}
 use native.Mathlib.Omega.{arith}
-use lib.ListN.{length}
+use lib.ListN.{length, drop}
 use Rattle.ident.specs.declared.Kind.{Kind}
 use Rattle.ident.specs.declared.Kind.TheVariants.{Txid, Wtxid}
 use Rattle.ident.specs.Number.{base, top, place, wtxid}
@@ -15,15 +14,15 @@ use Rattle.machine.specs.Table.{at}
 use Rattle.machine.specs.Claim.{same_kind}
 use Rattle.machine.specs.Sound.{Ordered}
 use Rattle.machine.specs.SoundTest.{every}
-use Rattle.machine.specs.Listing.{Line, HeadLine, RequestLine, CandidateLine, Rest}
+use Rattle.machine.specs.Listing.{Line, HeadLine, RequestLine, CandidateLine, Rest, rest_of}
 use Rattle.machine.proofs.At.{at_there}
 use Rattle.machine.proofs.Tests.{never}
-use Rattle.listed_lines.specs.Given.{LineAt, line_in, LineRead}
 use Rattle.listed_form.specs.Given.{Body, requests_only}
-use Rattle.listed_form.proofs.Stepping.{after-candidate, after-request, no-bad-line, no-head-line, body_end}
+use Rattle.listed_form.proofs.Stepping.{body_end}
 use Rattle.listed_requests.specs.Parts.{uncrowded}
-use Rattle.listed_pairs.specs.Given.{wtxid_only, WtxidLine, Behind, FirstWtxid}
+use Rattle.listed_pairs.specs.Given.{starts_wtxid, Tells, LinePassed, Behind, FirstWtxid}
 use Rattle.listed_pairs.proofs.Facing.{weaken, others_few}
+use Rattle.listed_pairs.proofs.Passing.{Leaves, leaves}
 
 -- ---- underway
 
@@ -46,12 +45,17 @@ wtxid-kind Wtxid e = refl
 wtxid-kind Txid e = never e
 
 module _ {b : List ℕ} {from i : ℕ} (u : Searched b from i) where
-  module _ {ws ps : List ℕ} {l : LineAt} (p : LineRead b i ws ps l) {x : Bool} (z : WtxidLine l.value x) where
-    pub search_on : x ≡ false → Searched b from l.end
-    search_on e = record { is = λ t y o f. next t (u.is t y o f) (line_in ws ps l.value) refl (sym (z.is ws ps) ∙ e) }
+  module _ {end : ℕ} (p : LinePassed b i end) {x : Bool} (z : x ≡ starts_wtxid (drop i b)) where
+    pub search_on : x ≡ false → Searched b from end
+    search_on e = record {
+      is = λ t y o f.
+          let a = u.is t y o f in
+          let d = p.is a.body.lines a.body.are in
+          next t a d.first (subst (λ (v : Bool). Tells v d.first) (sym z ∙ e) d.tells) (leaves b end p.inside d.are d.first (ap rest_of (sym d.parts) ∙ a.body.list));
+    }
       where
         past : (t q : Table) (r : Request) (cs : List Candidate) (s : Table) → r.key.kind ≡ Txid → q ≡ with_candidates cs r ∷ s → Ordered 0 q
-            → every (uncrowded max_alternates) q ≡ true → ((h : ℕ) → at (wtxid h) t ≡ at (wtxid h) q) → Body b l.end (record { candidates = cs; table = s }) → Sought b l.end t
+            → every (uncrowded max_alternates) q ≡ true → ((h : ℕ) → at (wtxid h) t ≡ at (wtxid h) q) → Body b end (record { candidates = cs; table = s }) → Sought b end t
         past t q r cs s k d o f same y =
             let o' = rw d at o in
             let v : place r.key ≡ r.key.hash = ap (λ (a : Kind). base a + r.key.hash) k ∙ omega arith in
@@ -63,18 +67,18 @@ module _ {b : List ℕ} {from i : ℕ} (u : Searched b from i) where
               same = λ h. same h ∙ ap (at (wtxid h)) d ∙ at_there (wtxid h) (with_candidates cs r) s (λ g. omega (arith, o'.1));
             }
 
-        next : (t : Table) → Sought b i t → (c : Option Line) → line_in ws ps l.value ≡ c → wtxid_only c ≡ false → Sought b l.end t
-        next t a none d k = no-bad-line p a.body d
-        next t a (some (HeadLine s)) d k = no-head-line p a.body d
-        next t a (some (RequestLine r)) d k =
-            let w = after-request p a.body r d in
-            past t a.left.table r w.candidates w.table (txid-kind r.key.kind k) w.parts a.ordered a.few a.same w.body
-        next t a (some (CandidateLine c)) d k =
-            let w = after-candidate p a.body c d in
-            record { left = record { candidates = w.candidates; table = a.left.table }; body = w.body; ordered = a.ordered; few = a.few; same = a.same }
+        next : (t : Table) (a : Sought b i t) (l : Line) → Tells false l → Leaves b end l a.left → Sought b end t
+        next t a (HeadLine s) k w = absurd w
+        next t a (RequestLine r) k w = past t a.left.table r w.candidates w.table (txid-kind r.key.kind (sym k)) w.parts a.ordered a.few a.same w.body
+        next t a (CandidateLine c) k w = record { left = record { candidates = w.candidates; table = a.left.table }; body = w.body; ordered = a.ordered; few = a.few; same = a.same }
 
     pub search_found : x ≡ true → FirstWtxid b from i
-    search_found e = record { is = λ t y o f. found t (u.is t y o f) (line_in ws ps l.value) refl (sym (z.is ws ps) ∙ e) }
+    search_found e = record {
+      is = λ t y o f.
+          let a = u.is t y o f in
+          let d = p.is a.body.lines a.body.are in
+          found t a d.first (subst (λ (v : Bool). Tells v d.first) (sym z ∙ e) d.tells) (leaves b end p.inside d.are d.first (ap rest_of (sym d.parts) ∙ a.body.list));
+    }
       where
         above : (r : Request) (cs : List Candidate) (s t : Table) → r.key.kind ≡ Wtxid → t ≡ with_candidates cs r ∷ s → Ordered 0 t → Ordered top t
         above r cs s t k d o =
@@ -82,16 +86,14 @@ module _ {b : List ℕ} {from i : ℕ} (u : Searched b from i) where
             let v : place r.key ≡ top + r.key.hash = ap (λ (a : Kind). base a + r.key.hash) k in
             rw d (omega arith, o'.1, o'.2)
 
-        found : (t : Table) → Sought b i t → (c : Option Line) → line_in ws ps l.value ≡ c → wtxid_only c ≡ true → Behind b i t
-        found t a none d k = never k
-        found t a (some (HeadLine s)) d k = never k
-        found t a (some (CandidateLine c)) d k = never k
-        found t a (some (RequestLine r)) d k =
-            let w = after-request p a.body r d in
+        found : (t : Table) (a : Sought b i t) (l : Line) → Tells true l → Leaves b end l a.left → Behind b i t
+        found t a (HeadLine s) k w = absurd w
+        found t a (CandidateLine c) k w = never (sym k)
+        found t a (RequestLine r) k w =
             record {
               table = a.left.table;
               body = clear a.left w.first a.body;
-              ordered = above r w.candidates w.table a.left.table (wtxid-kind r.key.kind k) w.parts a.ordered;
+              ordered = above r w.candidates w.table a.left.table (wtxid-kind r.key.kind (sym k)) w.parts a.ordered;
               few = a.few;
               same = a.same;
             }

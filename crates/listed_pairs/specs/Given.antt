@@ -1,6 +1,6 @@
 -- What the contracts of the pass over the hashes under both kinds say.
-use Rattle.std.specs.Prelude.{ℕ, ◌+◌, ◌<◌, ◌≤◌, ◌≡◌, Bool, true, false, not, ◌&&◌, List, ◌∷◌, ◌++◌, length, is_some}
-use Rattle.std.proofs.Math.Option.{Option, none, some}
+use Rattle.std.specs.Prelude.{ℕ, ◌+◌, ◌<◌, ◌≤◌, ◌≡◌, Bool, true, false, not, ◌&&◌, List, [], ◌∷◌, ◌++◌, length, drop, eqb, is_some}
+use Rattle.std.proofs.Math.Option.{some}
 use Rattle.ident.specs.declared.Kind.TheVariants.{Wtxid}
 use Rattle.ident.specs.Number.{top, wtxid}
 use Rattle.machine.specs.Limits.{max_alternates}
@@ -10,9 +10,8 @@ use Rattle.machine.specs.Claim.{same_kind}
 use Rattle.machine.specs.Sound.{Ordered}
 use Rattle.machine.specs.SoundTest.{every}
 use Rattle.machine.specs.Listing.{Line, HeadLine, RequestLine, CandidateLine, Rest}
-use Rattle.listed_lines.specs.declared.line.Line as line-line
 use Rattle.listed_lines.specs.declared.line.Request as line-request
-use Rattle.listed_lines.specs.Given.{line_in}
+use Rattle.listed_lines.specs.Given.{lines_of_text}
 use Rattle.listed_form.specs.Given.{Body, requests_only}
 use Rattle.listed_pairs.specs.declared.Pair.{Pair}
 use Rattle.listed_pairs.specs.declared.Pair.TheVariants.{Unfit, Done, Next}
@@ -20,14 +19,30 @@ use Rattle.listed_requests.specs.Parts.{few_once, uncrowded, pairs_fit}
 
 -- ---- the first Wtxid request
 
-abbrev pub wtxid_only : Option Line → Bool
-wtxid_only none = false
-wtxid_only (some (HeadLine s)) = false
-wtxid_only (some (RequestLine r)) = same_kind r.key.kind Wtxid
-wtxid_only (some (CandidateLine c)) = false
+-- the letter of a Wtxid request's key, `w`, begins it
+abbrev pub starts_wtxid : List ℕ → Bool
+starts_wtxid [] = false
+starts_wtxid (c ∷ l) = eqb c 119
 
-pub record WtxidLine (l : line-line.Line) (r : Bool) : Type 0 where
-  pub is : (ws ps : List ℕ) → r ≡ wtxid_only (line_in ws ps l)
+-- x tells whether a line behind the first one is a Wtxid request's
+abbrev pub Tells : Bool → Line → Type 0
+Tells x (HeadLine s) = Unit {0}
+Tells x (RequestLine r) = x ≡ same_kind r.key.kind Wtxid
+Tells x (CandidateLine c) = x ≡ false
+
+-- the first of the lines ls, begun by the bytes s, and where the others begin
+pub record Begun (b s : List ℕ) (end : ℕ) (ls : List Line) : Type 0 where
+  pub first : Line
+  pub others : List Line
+  pub parts : ls ≡ first ∷ others
+  pub are : lines_of_text (drop end b) ≡ some others
+  pub tells : Tells (starts_wtxid s) first
+
+-- the line at an index ends at another, if the lines from there on are all of a form
+pub record LinePassed (b : List ℕ) (at end : ℕ) : Type 0 where
+  pub is : (ls : List Line) → lines_of_text (drop at b) ≡ some ls → Begun b (drop at b) end ls
+  pub on : at < end
+  pub inside : end ≤ length b
 
 -- the requests from index j on are Wtxid requests, and those of t
 pub record Behind (b : List ℕ) (j : ℕ) (t : Table) : Type 0 where

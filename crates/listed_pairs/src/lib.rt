@@ -3,12 +3,13 @@
 // more than a line at a time.
 #![tactic(auto)]
 
-ghost use Rattle.std.specs.Prelude.{◌≡◌, ◌<◌, ◌≤◌, length};
+ghost use Rattle.std.specs.Prelude.{◌≡◌, ◌<◌, ◌≤◌, length, drop};
 ghost use Rattle.regions.specs.Rows.{quad_number};
-ghost use Rattle.listed_pairs.specs.Given.{WtxidLine, FirstWtxid, Skips, Below, PassesBelow, SideBySide, Compared, PairsFit};
+ghost use Rattle.listed_pairs.specs.Given.{starts_wtxid, LinePassed, FirstWtxid, Skips, Below, PassesBelow, SideBySide, Compared, PairsFit};
 
-use listed_lines::cursor::{Lines, ListBytes, Lists};
-use listed_lines::line::{Line, Request};
+use lines::read::find;
+use listed_lines::cursor::{Lines, ListBytes};
+use listed_lines::line::Request;
 use listed_requests::candidates::{Room, gather};
 use listed_requests::distinct::all_distinct;
 use listed_requests::forms::next_request;
@@ -23,27 +24,39 @@ pub enum Pair {
     Next,
 }
 
-// Whether a line is that of a Wtxid request.
-fn wtxid_line(l: Line) -> bool
-    ensures { WtxidLine l result }
+// Whether the next line is a Wtxid request's, as far as its first byte tells.
+fn meets_wtxid(lines: Lines) -> bool
+    ensures { result ≡ starts_wtxid (drop lines.entry.at lines.entry.text.now) }
 {
-    matches!(l, Line::Request(r) if is_wtxid(r.key.kind))
+    matches!(lines.text[lines.at..].first(), Some(b'w'))
+}
+
+// Passes the next line, whatever it says: of a text that lists requests its first byte tells enough.
+fn pass_line(lines: &mut Lines)
+    requires { lines.old.at < length lines.old.text.now }
+    ensures same { lines.new.text ≡ lines.old.text }
+    ensures passed { LinePassed lines.old.text.now lines.old.at lines.new.at }
+{
+    let end = find(lines.text, lines.at, b'\n');
+    if end == lines.text.len() {
+        lines.at = end;
+        return;
+    }
+    lines.at = end + 1;
 }
 
 // The lines from that of the first Wtxid request on.
-fn first_wtxid<'a>(lines: Lines<'a>, lists: &mut Lists) -> Lines<'a>
+fn first_wtxid(mut lines: Lines) -> Lines
     ensures same { result.text ≡ lines.entry.text }
     ensures first { FirstWtxid lines.entry.text.now lines.entry.at result.at }
 {
-    let mut here = lines;
-    let mut behind = lines;
-    while let Some(line) = behind.next(lists) {
-        if wtxid_line(line) {
-            return here;
+    while !lines.is_empty() {
+        if meets_wtxid(lines) {
+            return lines;
         }
-        here = behind;
+        pass_line(&mut lines);
     }
-    here
+    lines
 }
 
 // Passes the candidates of a request.
@@ -144,12 +157,11 @@ pub fn pairs_fit(lines: Lines) -> bool
     ensures { PairsFit lines.entry.text.now lines.entry.at result }
 {
     let mut bytes = ListBytes::zeros();
-    let mut lists = bytes.lend();
     let mut conns = [0; MAX_ALTERNATES];
     let mut front = lines;
-    let mut back = first_wtxid(lines, &mut lists);
+    let mut back = first_wtxid(lines);
     let mut room = Room {
-        lists,
+        lists: bytes.lend(),
         conns: &mut conns,
     };
     while !back.is_empty() {

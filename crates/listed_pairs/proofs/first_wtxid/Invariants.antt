@@ -5,8 +5,8 @@ use lib.ListN.{length}
 use Rattle.listed_pairs.proofs.Seeking.{Searched}
 use Rattle.listed_pairs.proofs.first_wtxid.Given as goal
 
-abbrev pub invariant-loop-line : goal.invariant-loop-line
-invariant-loop-line l = (l.here ≡ l.behind) × (l.behind.text ≡ l.lines.text) × Searched l.behind.text.now l.lines.at l.behind.at
+abbrev pub invariant-loop-lines : goal.invariant-loop-lines
+invariant-loop-lines l = (l.lines.text ≡ l.initial.lines.text) × Searched l.lines.text.now l.initial.lines.at l.lines.at
 
-abbrev pub decreases-loop-line : goal.decreases-loop-line
-decreases-loop-line l = length l.behind.text.now - l.behind.at
+abbrev pub decreases-loop-lines : goal.decreases-loop-lines
+decreases-loop-lines l = length l.lines.text.now - l.lines.at
