@@ -19,12 +19,13 @@ use Rattle.machine.specs.Sound.{Hashes, CursorFits, PollFits, AllFit, OwnerFits,
 use Rattle.machine.specs.Text.{joined}
 use Rattle.machine.specs.Fields.{fields}
 use Rattle.machine.specs.Listing.{HashForm, short, FormFits, Line, HeadLine, RequestLine, CandidateLine, head_fields, request_fields, candidate_fields, line_fields, line_of, lines_of}
-use Rattle.machine.specs.Listing.{text_of, listing_in, listing, text_lines, one_more, lines_in, lines_from, Rest, falls, candidate_then, request_then, rest_of, tabled, tabled_from, state_of}
+use Rattle.machine.specs.Listing.{text_of, listing_in, listing, text_lines, one_more, lines_in, lines_from, Rest, falls, request_then, rest_of, tabled, tabled_from, state_of}
 use Rattle.machine.specs.Listing.{read_in, read_listing, Whenever, Every, KeyListed, OwnerListed, PackageListed, ItemListed, CandidateListed, RequestListed, NotBelow, TableListed}
 use Rattle.machine.specs.Listing.{HeadListed, Listed}
 use Rattle.machine.proofs.Tests.{test, never}
 use Rattle.machine.proofs.RoundTrips.{never_some}
 use Rattle.machine.proofs.Forms.{short-fits}
+use Rattle.machine.proofs.FrontLines.{request_first, candidate_first}
 use Rattle.machine.proofs.Commas.{joined-fields, line_read, unbroken_joined, ended_lines, lines-text}
 use Rattle.machine.proofs.ListingLines.{LineGood, line_back, line-text, line_above, line-fields}
 
@@ -97,25 +98,12 @@ module _ (x : HashForm) (fit : FormFits x) where
   unfolding rest_of lines_of text_of request_fields
   rest_text [] q e = let g : record { candidates = []; table = [] } ≡ q = cc in rw (← g)
   rest_text (HeadLine s ∷ ls) q e = absurd (never_some e)
-  rest_text (RequestLine r ∷ ls) q e = go (rest_of ls) (rest_text ls) e
-    where
-      go : (o : Option Rest) → ((p : Rest) → o ≡ some p → text_of x (map CandidateLine p.candidates ++ lines_of p.table) ≡ text_of x ls) → request_then r o ≡ some q
-          → text_of x (map CandidateLine q.candidates ++ lines_of q.table) ≡ text_of x (RequestLine r ∷ ls)
-      go none h d = absurd (never_some d)
-      go (some p) h d = elim (test (falls r.key p.table)) [
-        | inl t ↦ absurd (never_some (rw t at d))
-        | inr t ↦
-            let g : record { candidates = []; table = with_candidates p.candidates r ∷ p.table } ≡ q = cc (rw t at d) in
-            rw (← g) (ap (λ (u : List ℕ). joined (request_fields x r) ++ (10 ∷ u)) (h p refl))
-      ]
-  rest_text (CandidateLine c ∷ ls) q e = go (rest_of ls) (rest_text ls) e
-    where
-      go : (o : Option Rest) → ((p : Rest) → o ≡ some p → text_of x (map CandidateLine p.candidates ++ lines_of p.table) ≡ text_of x ls) → candidate_then c o ≡ some q
-          → text_of x (map CandidateLine q.candidates ++ lines_of q.table) ≡ text_of x (CandidateLine c ∷ ls)
-      go none h d = absurd (never_some d)
-      go (some p) h d =
-          let g : record { candidates = c ∷ p.candidates; table = p.table } ≡ q = cc in
-          rw (← g) (ap (λ (u : List ℕ). joined (candidate_fields x c) ++ (10 ∷ u)) (h p refl))
+  rest_text (RequestLine r ∷ ls) q e =
+      let w = request_first r ls e in
+      rw (← w.parts) (ap (λ (u : List ℕ). joined (request_fields x r) ++ (10 ∷ u)) (rest_text ls w.rest w.list))
+  rest_text (CandidateLine c ∷ ls) q e =
+      let w = candidate_first c ls e in
+      rw (← w.parts) (ap (λ (u : List ℕ). joined (candidate_fields x c) ++ (10 ∷ u)) (rest_text ls w.rest w.list))
 
   -- and can be written
   record RestListed (q : Rest) : Type 0 where
@@ -126,29 +114,18 @@ module _ (x : HashForm) (fit : FormFits x) where
   unfolding rest_of
   rest_listed [] q g e = let d : record { candidates = []; table = [] } ≡ q = cc in rw (← d) (record { candidates = tt; table = tt })
   rest_listed (HeadLine s ∷ ls) q g e = absurd (never_some e)
-  rest_listed (RequestLine r ∷ ls) q g e = go (rest_of ls) (λ p. rest_listed ls p g.1) e
-    where
-      go : (o : Option Rest) → ((p : Rest) → o ≡ some p → RestListed p) → request_then r o ≡ some q → RestListed q
-      go none h d = absurd (never_some d)
-      go (some p) h d = elim (test (falls r.key p.table)) [
-        | inl t ↦ absurd (never_some (rw t at d))
-        | inr t ↦
-            let w : record { candidates = []; table = with_candidates p.candidates r ∷ p.table } ≡ q = cc (rw t at d) in
-            let i = h p refl in
-            let v = g.0.0 in
-            rw (← w) (record {
-              candidates = tt;
-              table = (not_below r.key p.table t, record { key = v.key; owner = v.owner; packed = v.packed; parents = v.parents }, i.candidates, i.table);
-            })
-      ]
-  rest_listed (CandidateLine c ∷ ls) q g e = go (rest_of ls) (λ p. rest_listed ls p g.1) e
-    where
-      go : (o : Option Rest) → ((p : Rest) → o ≡ some p → RestListed p) → candidate_then c o ≡ some q → RestListed q
-      go none h d = absurd (never_some d)
-      go (some p) h d =
-          let w : record { candidates = c ∷ p.candidates; table = p.table } ≡ q = cc in
-          let i = h p refl in
-          rw (← w) (record { candidates = (g.0, i.candidates); table = i.table })
+  rest_listed (RequestLine r ∷ ls) q g e =
+      let w = request_first r ls e in
+      let i = rest_listed ls w.rest g.1 w.list in
+      let v = g.0.0 in
+      rw (← w.parts) (record {
+        candidates = tt;
+        table = (not_below r.key w.rest.table w.rises, record { key = v.key; owner = v.owner; packed = v.packed; parents = v.parents }, i.candidates, i.table);
+      })
+  rest_listed (CandidateLine c ∷ ls) q g e =
+      let w = candidate_first c ls e in
+      let i = rest_listed ls w.rest g.1 w.list in
+      rw (← w.parts) (record { candidates = (g.0, i.candidates); table = i.table })
 
   -- ---- the lines of a state that can be written
 
