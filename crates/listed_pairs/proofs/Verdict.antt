@@ -8,11 +8,11 @@ use lib.Dec.{leb}
 use borrow.Author.Tests.{lt-ltb, leb-true}
 use Rattle.ident.specs.Number.{top, Key}
 use Rattle.machine.specs.Limits.{Limits, max_alternates, word}
-use Rattle.machine.specs.State.{Table, State, limits_of}
+use Rattle.machine.specs.State.{Table, State, limits_of, KeyTyped}
 use Rattle.machine.specs.Table.{held, places_held}
 use Rattle.machine.specs.Sound.{Ordered}
 use Rattle.machine.specs.SoundTest.{poll_fits, cursor_fits, sizes_fit, is_sound, is_ordered, every, is_filled, is_lawful}
-use Rattle.machine.specs.Listing.{Whenever, KeyListed, Listed}
+use Rattle.machine.specs.Listing.{Whenever, Listed}
 use Rattle.machine.proofs.Tests.{and_left, and_right}
 use Rattle.machine.proofs.Listings.{read_listed}
 use Rattle.machine.proofs.SoundTest.{test-ordered}
@@ -30,7 +30,7 @@ poll-fits : (p : Option ℕ) → Whenever (λ n. n < word) p → poll_fits p ≡
 poll-fits none l = refl
 poll-fits (some n) l = lt-ltb n word l
 
-cursor-fits : (k : Option Key) → Whenever KeyListed k → cursor_fits k ≡ true
+cursor-fits : (k : Option Key) → Whenever KeyTyped k → cursor_fits k ≡ true
 cursor-fits none l = refl
 cursor-fits (some k) l = lt-ltb k.hash top l
 

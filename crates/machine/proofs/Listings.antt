@@ -13,14 +13,14 @@ use Rattle.ident.specs.declared.ItemKind.TheVariants.{Transaction, WitnessTransa
 use Rattle.ident.specs.declared.Kind.{Kind}
 use Rattle.ident.specs.Number.{top, Key, place, key_as, kind_of}
 use Rattle.machine.specs.Limits.{word}
-use Rattle.machine.specs.State.{Candidate, Owner, Package, Request, Table, State, on_table, with_candidates}
+use Rattle.machine.specs.State.{Candidate, Owner, Package, Request, Table, State, on_table, with_candidates, Each, KeyTyped}
 use Rattle.machine.specs.Table.{has}
 use Rattle.machine.specs.Sound.{Hashes, CursorFits, PollFits, AllFit, OwnerFits, Packed, Lawful, Ordered, All, Sound}
 use Rattle.machine.specs.Text.{joined}
 use Rattle.machine.specs.Fields.{fields}
 use Rattle.machine.specs.Listing.{HashForm, short, FormFits, Line, HeadLine, RequestLine, CandidateLine, head_fields, request_fields, candidate_fields, line_fields, line_of, lines_of}
 use Rattle.machine.specs.Listing.{text_of, listing_in, listing, text_lines, one_more, lines_in, lines_from, Rest, falls, request_then, rest_of, tabled, tabled_from, state_of}
-use Rattle.machine.specs.Listing.{read_in, read_listing, Whenever, Every, KeyListed, OwnerListed, PackageListed, ItemListed, CandidateListed, RequestListed, NotBelow, TableListed}
+use Rattle.machine.specs.Listing.{read_in, read_listing, Whenever, OwnerListed, PackageListed, ItemListed, CandidateListed, RequestListed, NotBelow, TableListed}
 use Rattle.machine.specs.Listing.{HeadListed, Listed}
 use Rattle.machine.proofs.Tests.{test, never}
 use Rattle.machine.proofs.RoundTrips.{never_some}
@@ -107,7 +107,7 @@ module _ (x : HashForm) (fit : FormFits x) where
 
   -- and can be written
   record RestListed (q : Rest) : Type 0 where
-    candidates : Every CandidateListed q.candidates
+    candidates : Each CandidateListed q.candidates
     table : TableListed q.table
 
   rest_listed : (ls : List Line) (q : Rest) → LinesGood ls → rest_of ls ≡ some q → RestListed q
@@ -129,7 +129,7 @@ module _ (x : HashForm) (fit : FormFits x) where
 
   -- ---- the lines of a state that can be written
 
-  candidates-good : (cs : List Candidate) (ls : List Line) → Every CandidateListed cs → LinesGood ls → LinesGood (map CandidateLine cs ++ ls)
+  candidates-good : (cs : List Candidate) (ls : List Line) → Each CandidateListed cs → LinesGood ls → LinesGood (map CandidateLine cs ++ ls)
   candidates-good [] ls a g = g
   candidates-good (c ∷ cs) ls a g = (a.0, candidates-good cs ls a.1 g)
 
@@ -201,7 +201,7 @@ owner-listed : (k : Key) (o : Option Owner) (cs : List Candidate) → OwnerFits 
 owner-listed k none cs f a = tt
 owner-listed k (some o) cs f a = record { connection = has_word k o.connection cs f.0 a; deadline = f.1 }
 
-hashes-listed : (hs : List ℕ) → Hashes hs → Every (λ h. h < top) hs
+hashes-listed : (hs : List ℕ) → Hashes hs → Each (λ h. h < top) hs
 hashes-listed [] a = tt
 hashes-listed (h ∷ hs) a = (a.0, hashes-listed hs a.1)
 
@@ -225,7 +225,7 @@ item-listed WitnessTransaction h k l e = (tt, let d : h ≡ k.hash = cc in omega
 item-listed WTx h k l e = (tt, let d : h ≡ k.hash = cc in omega arith)
 item-listed (Other n) h k l e = absurd (never_some e)
 
-candidates-listed : (k : Key) (cs : List Candidate) → k.hash < top → AllFit k cs → Every CandidateListed cs
+candidates-listed : (k : Key) (cs : List Candidate) → k.hash < top → AllFit k cs → Each CandidateListed cs
 candidates-listed k [] h a = tt
 candidates-listed k (c ∷ cs) h a =
     let f = a.0 in
@@ -245,7 +245,7 @@ poll-listed : (p : Option ℕ) → PollFits p → Whenever (λ n. n < word) p
 poll-listed none f = tt
 poll-listed (some n) f = f
 
-cursor-listed : (c : Option Key) → CursorFits c → Whenever KeyListed c
+cursor-listed : (c : Option Key) → CursorFits c → Whenever KeyTyped c
 cursor-listed none f = tt
 cursor-listed (some k) f = f
 
