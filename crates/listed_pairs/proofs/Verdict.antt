@@ -12,7 +12,7 @@ use Rattle.machine.specs.State.{Table, State, limits_of, KeyTyped}
 use Rattle.machine.specs.Table.{held, places_held}
 use Rattle.machine.specs.Sound.{Ordered}
 use Rattle.machine.specs.SoundTest.{poll_fits, cursor_fits, sizes_fit, is_sound, is_ordered, every, is_filled, is_lawful}
-use Rattle.machine.specs.Listing.{Whenever, Listed}
+use Rattle.machine.specs.Listing.{Whenever, StateListed}
 use Rattle.machine.proofs.Tests.{and_left, and_right}
 use Rattle.machine.proofs.Listings.{read_listed}
 use Rattle.machine.proofs.SoundTest.{test-ordered}
@@ -43,7 +43,7 @@ and-false true = refl
 and-false false = refl
 
 -- the first line of a listing has no number that is out of its range but L and Q
-head_is : (s : State) → Listed s → head_fits s ≡ sizes_fit s
+head_is : (s : State) → StateListed s → head_fits s ≡ sizes_fit s
 head_is s l =
     ap (λ (x : Bool). sizes_fit s && (x && (cursor_fits s.known_cursor && cursor_fits s.ready_cursor))) (poll-fits s.next_poll l.head.poll)
     ∙ ap (λ (x : Bool). sizes_fit s && (x && cursor_fits s.ready_cursor)) (cursor-fits s.known_cursor l.head.known)
@@ -82,7 +82,7 @@ module _ {b : List ℕ} {h : line-head.Head} {e : ℕ} (v : Reads b h e) where
   abbrev state : State
   state = v.state
 
-  listed : Listed state
+  listed : StateListed state
   listed = read_listed b state v.read
 
   sizes-are : sizes_fit state ≡ sizes_fit (head_state h)

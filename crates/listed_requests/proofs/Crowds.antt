@@ -83,11 +83,11 @@ once_passes (c ∷ cs) f =
     let a = absent (elem x (connections_of cs)) (λ d. omega (arith, f x, some_of x cs d, ap one (eq-eqb x x refl))) in
     rw (a, once_passes cs (λ n. omega (arith, f n)))
 
-pub record Few (most : ℕ) (cs : List Candidate) : Type 0 where
+pub record FewOnce (most : ℕ) (cs : List Candidate) : Type 0 where
   pub few : length cs ≤ most
   pub once : Once cs
 
-pub test_few : (most : ℕ) (cs : List Candidate) → Test (few_once most cs) (Few most cs)
+pub test_few : (most : ℕ) (cs : List Candidate) → Test (few_once most cs) (FewOnce most cs)
 unfolding few_once
 test_few most cs =
     test_iff (test_and (leb (length cs) most) (no_repeat (connections_of cs)) (record { holds = leb-true (length cs) most; passes = le-leb (length cs) most })
@@ -99,10 +99,10 @@ unfolding count_in
 count-append p [] ds = omega arith
 count-append p (c ∷ cs) ds = omega (arith, count-append p cs ds)
 
-pub few_front : {most : ℕ} (cs ds : List Candidate) → Few most (cs ++ ds) → Few most cs
+pub few_front : {most : ℕ} (cs ds : List Candidate) → FewOnce most (cs ++ ds) → FewOnce most cs
 few_front cs ds f = record { few = omega (arith, length-append cs ds, f.few); once = λ n. omega (arith, count-append (is n) cs ds, f.once n) }
 
-pub few_back : {most : ℕ} (cs ds : List Candidate) → Few most (cs ++ ds) → Few most ds
+pub few_back : {most : ℕ} (cs ds : List Candidate) → FewOnce most (cs ++ ds) → FewOnce most ds
 few_back cs ds f = record { few = omega (arith, length-append cs ds, f.few); once = λ n. omega (arith, count-append (is n) cs ds, f.once n) }
 
 -- ---- a weight at one hash is that of its two keys

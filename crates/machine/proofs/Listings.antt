@@ -21,7 +21,7 @@ use Rattle.machine.specs.Fields.{fields}
 use Rattle.machine.specs.Listing.{HashForm, short, FormFits, Line, HeadLine, RequestLine, CandidateLine, head_fields, request_fields, candidate_fields, line_fields, line_of, lines_of}
 use Rattle.machine.specs.Listing.{text_of, listing_in, listing, text_lines, one_more, lines_in, lines_from, Rest, falls, request_then, rest_of, tabled, tabled_from, state_of}
 use Rattle.machine.specs.Listing.{read_in, read_listing, Whenever, OwnerListed, PackageListed, ItemListed, CandidateListed, RequestListed, NotBelow, TableListed}
-use Rattle.machine.specs.Listing.{HeadListed, Listed}
+use Rattle.machine.specs.Listing.{HeadListed, StateListed}
 use Rattle.machine.proofs.Tests.{test, never}
 use Rattle.machine.proofs.RoundTrips.{never_some}
 use Rattle.machine.proofs.Forms.{short-fits}
@@ -146,44 +146,44 @@ module _ (x : HashForm) (fit : FormFits x) where
   -- ---- the laws, of any form of hashes that fits
 
   -- a state that can be written is read back
-  pub form_read : (s : State) → Listed s → read_in x (listing_in x s) ≡ some s
+  pub form_read : (s : State) → StateListed s → read_in x (listing_in x s) ≡ some s
   unfolding read_in listing_in
   form_read s v =
       let ls = HeadLine (on_table [] s) ∷ lines_of s.table in
       rw (text-lines ls, lines_back ls ((with_table [] s v.head, refl), table-good s.table v.table), table_back s.table v.table)
 
   -- a text that is read is the listing of its state, which can be written
-  pub form-listing : (b : List ℕ) (s : State) → read_in x b ≡ some s → (listing_in x s ≡ b) × Listed s
+  pub form-listing : (b : List ℕ) (s : State) → read_in x b ≡ some s → (listing_in x s ≡ b) × StateListed s
   unfolding read_in listing_in text_of head_fields
   form-listing b s e = at_lines (text_lines b) refl e
     where
       at_rest_lem : (h : State) (ls : List Line) → HeadListed h → LinesGood ls → (o : Option Rest) → rest_of ls ≡ o → tabled_from h o ≡ some s
-          → (text_of x (HeadLine (on_table [] s) ∷ lines_of s.table) ≡ text_of x (HeadLine h ∷ ls)) × Listed s
+          → (text_of x (HeadLine (on_table [] s) ∷ lines_of s.table) ≡ text_of x (HeadLine h ∷ ls)) × StateListed s
       at_rest_lem h ls v g none q d = absurd (never_some d)
       at_rest_lem h ls v g (some p) q d = with_rest p.candidates p.table (rest_text ls p q) (rest_listed ls p g q).table d
         where
           with_rest : (cs : List Candidate) (t : Table) → text_of x (map CandidateLine cs ++ lines_of t) ≡ text_of x ls → TableListed t → tabled h cs t ≡ some s
-              → (text_of x (HeadLine (on_table [] s) ∷ lines_of s.table) ≡ text_of x (HeadLine h ∷ ls)) × Listed s
+              → (text_of x (HeadLine (on_table [] s) ∷ lines_of s.table) ≡ text_of x (HeadLine h ∷ ls)) × StateListed s
           with_rest (c ∷ cs) t w a d = absurd (never_some d)
           with_rest [] t w a d =
               let g : on_table t h ≡ s = cc in
               rw (← g) (ap (λ (u : List ℕ). joined (head_fields x h) ++ (10 ∷ u)) w, record { head = with_table t h v; table = a })
 
-      at_state : (ls : List Line) → LinesGood ls → state_of (some ls) ≡ some s → (text_of x (HeadLine (on_table [] s) ∷ lines_of s.table) ≡ text_of x ls) × Listed s
+      at_state : (ls : List Line) → LinesGood ls → state_of (some ls) ≡ some s → (text_of x (HeadLine (on_table [] s) ∷ lines_of s.table) ≡ text_of x ls) × StateListed s
       at_state [] g d = absurd (never_some d)
       at_state (HeadLine h ∷ ls) g d = at_rest_lem h ls g.0.0 g.1 (rest_of ls) refl d
       at_state (RequestLine r ∷ ls) g d = absurd (never_some d)
       at_state (CandidateLine c ∷ ls) g d = absurd (never_some d)
 
       at_text : (ts : List (List ℕ)) (o : Option (List Line)) → lines_in x ts ≡ o → state_of o ≡ some s
-          → (text_of x (HeadLine (on_table [] s) ∷ lines_of s.table) ≡ ended_lines ts) × Listed s
+          → (text_of x (HeadLine (on_table [] s) ∷ lines_of s.table) ≡ ended_lines ts) × StateListed s
       at_text ts none q d = absurd (never_some d)
       at_text ts (some ls) q d =
           let r = lines_in_text ts ls q in
           let p = at_state ls r.1 d in
           (p.0 ∙ sym r.0, p.1)
 
-      at_lines : (o : Option (List (List ℕ))) → text_lines b ≡ o → state_of (lines_from x o) ≡ some s → (text_of x (HeadLine (on_table [] s) ∷ lines_of s.table) ≡ b) × Listed s
+      at_lines : (o : Option (List (List ℕ))) → text_lines b ≡ o → state_of (lines_from x o) ≡ some s → (text_of x (HeadLine (on_table [] s) ∷ lines_of s.table) ≡ b) × StateListed s
       at_lines none q d = absurd (never_some d)
       at_lines (some ts) q d = let p = at_text ts (lines_in x ts) refl d in (p.0 ∙ sym (lines-text b ts q), p.1)
 
@@ -249,7 +249,7 @@ cursor-listed : (c : Option Key) → CursorFits c → Whenever KeyTyped c
 cursor-listed none f = tt
 cursor-listed (some k) f = f
 
-pub sound-listed : (s : State) → Sound s → Listed s
+pub sound-listed : (s : State) → Sound s → StateListed s
 sound-listed s v = record {
   head = record {
     limit = omega arith;
@@ -278,8 +278,8 @@ one_listing s t v w e =
     cc
 
 -- a text is read exactly if it is the listing of a state that can be written: all others get 11
-pub listed_read : (s : State) → Listed s → read_listing (listing s) ≡ some s
+pub listed_read : (s : State) → StateListed s → read_listing (listing s) ≡ some s
 listed_read s v = form_read short short-fits s v
 
-pub read_listed : (b : List ℕ) (s : State) → read_listing b ≡ some s → Listed s
+pub read_listed : (b : List ℕ) (s : State) → read_listing b ≡ some s → StateListed s
 read_listed b s e = (form-listing short short-fits b s e).1

@@ -317,6 +317,6 @@ pub record HeadListed (s : State) : Type 0 where
   pub known : Whenever KeyTyped s.known_cursor
   pub ready : Whenever KeyTyped s.ready_cursor
 
-pub record Listed (s : State) : Type 0 where
+pub record StateListed (s : State) : Type 0 where
   pub head : HeadListed s
   pub table : TableListed s.table
