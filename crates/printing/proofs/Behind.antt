@@ -23,7 +23,8 @@ use Rattle.printing.proofs.Printing.{decimal_end}
 -- ---- the loop over the keys
 
 next_behind : (i : ℕ) (u : Buffer) → with_commas (key_texts (keys_in (i + 1) u)) ≡ with_commas (key_texts (keys_in i u)) ++ (44 ∷ key_text (key_at u i))
-next_behind i u = ap (λ (ks : List Key). with_commas (key_texts ks)) (keys_more i u) ∙ ap with_commas (texts-append (keys_in i u) (key_at u i)) ∙ commas-append (key_texts (keys_in i u)) (key_text (key_at u i))
+next_behind i u =
+    ap (λ (ks : List Key). with_commas (key_texts ks)) (keys_more i u) ∙ ap with_commas (texts-append (keys_in i u) (key_at u i)) ∙ commas-append (key_texts (keys_in i u)) (key_text (key_at u i))
 
 pub none_behind : (out : List ℕ) (at : ℕ) (u : Buffer) {at' : ℕ} → at' ≡ at → Wrote out out at (with_commas (key_texts (keys_in 0 u))) at'
 unfolding with_commas key_texts keys_in recs
@@ -69,7 +70,8 @@ module _ {out₀ : List ℕ} (room : answer_room ≤ length out₀) (u : Buffer)
 -- ---- the keys of a connection that left
 
 module _ {out₀ : List ℕ} (room : answer_room ≤ length out₀) (u : Buffer) where
-  pub departure_wrote : {out out' : List ℕ} {e r : ℕ} (own n : ℕ) → n ≤ most_keys → Wrote out₀ out 0 (decimal own) e → Wrote out out' e (with_commas (key_texts (keys_in n u))) r → r ≤ e + next_room * n
+  pub departure_wrote : {out out' : List ℕ} {e r : ℕ} (own n : ℕ) → n ≤ most_keys → Wrote out₀ out 0 (decimal own) e → Wrote out out' e (with_commas (key_texts (keys_in n u))) r
+      → r ≤ e + next_room * n
       → Printed out₀ out' (joined (decimal own ∷ key_texts (keys_in n u))) r
   departure_wrote own n m p q h =
       let d = decimal_end own p in

@@ -59,7 +59,8 @@ candidate-line r = five (decimal r.conn) (item_field short (record { kind = item
 
 -- ---- a request's line
 
-parts : (k i m : List ℕ) (o p l : List (List ℕ)) → joined (k ∷ (o ++ (i ∷ (p ++ (l ++ (m ∷ [])))))) ++ (10 ∷ []) ≡ k ++ (with_commas o ++ ((44 ∷ i) ++ (with_commas (p ++ l) ++ ((44 ∷ m) ++ (10 ∷ [])))))
+parts : (k i m : List ℕ) (o p l : List (List ℕ)) → joined (k ∷ (o ++ (i ∷ (p ++ (l ++ (m ∷ [])))))) ++ (10 ∷ [])
+    ≡ k ++ (with_commas o ++ ((44 ∷ i) ++ (with_commas (p ++ l) ++ ((44 ∷ m) ++ (10 ∷ [])))))
 parts k i m o p l =
     let e : with_commas (o ++ (i ∷ (p ++ (l ++ (m ∷ []))))) ≡ with_commas o ++ ((44 ∷ i) ++ (with_commas (p ++ l) ++ (44 ∷ m))) =
     commas_both o (i ∷ (p ++ (l ++ (m ∷ []))))

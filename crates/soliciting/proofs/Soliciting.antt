@@ -54,7 +54,8 @@ module _ (q : Asked) {b : List ℕ} {r₀ : Bool} (may : Tells b (λ t. r₀ ≡
     after st = on_table (announce_at (limits_of st) (wtxid q.h) (soliciting q.n q.h q.now) st.table).table st
 
     follows : (st : State) → Sound st → Follows (limits_of st) st.places st.table (after st).table
-    follows st s = follows-announce_at (wtxid q.h) (soliciting q.n q.h q.now) q.small (record { item = refl; positive = q.peer.positive; connection = q.peer.small; ready = omega arith; priority = omega arith })
+    follows st s = follows-announce_at (wtxid q.h) (soliciting q.n q.h q.now) q.small
+        (record { item = refl; positive = q.peer.positive; connection = q.peer.small; ready = omega arith; priority = omega arith })
         s.bounded
 
     after-sound : (st : State) → Sound st → Sound (after st)
