@@ -117,7 +117,7 @@ module _ {n : ℕ} {b u₀ u : List ℕ} {c i : ℕ} (v : Owning n b u₀ u c i)
       length-append (row_keys n (take i rs)) (row_keys n (get_or rs i r ∷ [])) ∙ ap (λ (q : Row). length (row_keys n (take i rs)) + length (row_keys n (q ∷ []))) (sym e) ∙
       ap (λ (q : List Row). length (row_keys n (take i rs)) + length (map key_at q)) (filter_one (is_of n) r (eq-eqb r.conn n own)) in
       let y : length (row_keys n rs) ≡ length (row_keys n (take (i + 1) rs)) + length (row_keys n (drop (i + 1) rs)) =
-          ap (λ (q : List Row). length (row_keys n q)) (sym (take-append-drop (i + 1) rs)) ∙
+      ap (λ (q : List Row). length (row_keys n q)) (sym (take-append-drop (i + 1) rs)) ∙
       ap length (keys-append n (take (i + 1) rs) (drop (i + 1) rs)) ∙ length-append (row_keys n (take (i + 1) rs)) (row_keys n (drop (i + 1) rs)) in
       let z = keys_few n k in
       let w = v.count f k.writes in
