@@ -23,15 +23,12 @@ use Rattle.machine.proofs.ListingLines.{line-text}
 use Rattle.lines.proofs.Splitting.{rest_field, rest_start}
 use Rattle.listed_lines.specs.Starts.{keyed}
 use Rattle.listed_lines.specs.Given.{lines_of_text}
-use Rattle.listed_lines.proofs.Starts.{keyed-no-candidate}
+use Rattle.listed_lines.proofs.Starts.{keyed-no-candidate, same_head}
 use Rattle.listed_lines.proofs.Ends.{no_end, line-ends}
 use Rattle.listed_form.proofs.Stepping.{parted}
 use Rattle.listed_pairs.specs.Given.{starts_wtxid, Tells, LinePassed}
 
 -- ---- the letter
-
-same_head : {f g : List ℕ} {fs gs : List (List ℕ)} → f ∷ fs ≡ g ∷ gs → f ≡ g
-same_head e = cc
 
 letter-kind : (k : Kind) → eqb (kind_letter k) 119 ≡ same_kind k Wtxid
 letter-kind Txid = refl

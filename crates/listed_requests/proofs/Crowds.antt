@@ -21,6 +21,7 @@ use Rattle.machine.proofs.At.{at_here, at_there}
 use Rattle.machine.proofs.Table.{at_absent}
 use Rattle.machine.proofs.Tests.{test, never, or_left, or_right}
 use Rattle.machine.proofs.SoundTest.{Test, test_and, test_iff}
+use Rattle.machine.proofs.Unowned.{no-weight}
 use Rattle.heavy.specs.Streams.{connections_of}
 use Rattle.listed_requests.specs.Parts.{few_once}
 
@@ -179,10 +180,6 @@ owner-in : (b : Bool) (o : Option Owner) → b ≡ true → owner_in (λ m. b) o
 owner-in b none e = refl
 owner-in b (some o) e = ap one e
 
-none_owner : (b : Bool) (o : Option Owner) → b ≡ false → owner_in (λ m. b) o ≡ 0
-none_owner b none e = refl
-none_owner b (some o) e = ap one e
-
 empty-count : (p : ℕ → Bool) → count_in p [] ≡ 0
 unfolding count_in
 empty-count p = refl
@@ -202,4 +199,4 @@ module _ (h : ℕ) (small : h < top) (t : Table) (o : Ordered 0 t) where
   pub owned_two : owned_at h t ≡ one (is_some (at (txid h) t).owner) + one (is_some (at (wtxid h) t).owner)
   owned_two =
       two_keys h small (λ r. owner_in (under h r.key) r.owner) (λ r. one (is_some r.owner)) (λ r e. owner-in (eqb r.key.hash h) r.owner (eq-eqb r.key.hash h e))
-      (λ r n. none_owner (eqb r.key.hash h) r.owner (ne_eqb r.key.hash h n)) (λ k. refl) 0 t o
+      (λ r n. no-weight (eqb r.key.hash h) r.owner (ne_eqb r.key.hash h n)) (λ k. refl) 0 t o

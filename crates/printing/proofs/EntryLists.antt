@@ -16,8 +16,8 @@ use Rattle.ident.specs.Number.{Key, Item}
 use Rattle.ident.specs.Words.{hash_num}
 use Rattle.regions.specs.declared.Quad.{Quad}
 use Rattle.regions.specs.Rows.{quad_number}
-use Rattle.regions.proofs.Order.{number_quad}
 use Rattle.requests.specs.Changes.{Words}
+use Rattle.requests.proofs.HashRows.{words-number}
 use Rattle.machine.specs.State.{Candidate, Entry}
 use Rattle.claiming.specs.Claiming.{entry_from, entries_from}
 use Rattle.machine.specs.Text.{hash_digits, decimal_digits, decimal, hexadecimal, bool_text, key_text, item_kind_text, item_text, joined}
@@ -48,13 +48,10 @@ bool-length false = refl
 
 -- ---- one field
 
-hash_is : {h : Hash} {q : Quad} → Words h q → quad_number q ≡ hash_num h
-hash_is {h} v = ap quad_number v.words_are ∙ number_quad (hash_num h)
-
 module _ {s s' : List ℕ} {a r : ℕ} where
   pub key_of_hash : (k : Kind) {h : Hash} {q : Quad} → Words h q → Wrote s s' a (key_text (record { kind = k; hash = quad_number q })) r
       → Wrote s s' a (key_text (record { kind = k; hash = hash_num h })) r
-  key_of_hash k v w = rw (← hash_is v) w
+  key_of_hash k v w = rw (← words-number v) w
 
 module _ {s : List ℕ} {a : ℕ} {s₁ s₂ : List ℕ} {e r : ℕ} where
   pub wrote-number : (n : ℕ) → a + number_room ≤ length s → Wrote s s₁ a (44 ∷ []) e → Wrote s₁ s₂ e (decimal n) r → Wrote s s₂ a (44 ∷ decimal n) r
@@ -63,7 +60,7 @@ module _ {s : List ℕ} {a : ℕ} {s₁ s₂ : List ℕ} {e r : ℕ} where
   pub wrote-item : (k : ItemKind) {h : Hash} {q : Quad} → a + item_room ≤ length s → Wrote s s₁ a (item_kind_text k) e → Words h q → Wrote s₁ s₂ e (hexadecimal (quad_number q)) r
       → Wrote s s₂ a (item_text (record { kind = k; hash = hash_num h })) r
   unfolding item_text
-  wrote-item k {h} m p v w = wrote_more p (rw (hash_is v) at w) (omega (arith, p.next, kind-length k, length-numeral 16 hash_digits (hash_num h)))
+  wrote-item k {h} m p v w = wrote_more p (rw (words-number v) at w) (omega (arith, p.next, kind-length k, length-numeral 16 hash_digits (hash_num h)))
 
 pub wrote_other : {s s₁ s₂ s₃ : List ℕ} {a e₁ e₂ r n : ℕ} {k : ItemKind} → k ≡ Other n → a + kind_room ≤ length s → Wrote s s₁ a (111 ∷ []) e₁ → Wrote s₁ s₂ e₁ (decimal n) e₂
     → Wrote s₂ s₃ e₂ (58 ∷ []) r

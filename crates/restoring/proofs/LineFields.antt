@@ -14,6 +14,7 @@ use Rattle.regions.specs.declared.Quad.{Quad}
 use Rattle.regions.specs.declared.Row.{Row}
 use Rattle.places.specs.Places.{Place, PlaceShort, list_most}
 use Rattle.regions.specs.Rows.{quad_number}
+use Rattle.regions.proofs.Order.{zero_number}
 use Rattle.machine.specs.State.{Request, owner_is}
 use Rattle.machine.specs.Typed.{Each}
 use Rattle.std.specs.Prelude.{Option as Maybe, Some, None, MatchOption, is_some}
@@ -33,10 +34,6 @@ use Rattle.reading.specs.Given.{hashes_of}
 
 -- ---- the package
 
-quad_zero : quad_number (record { w0 = 0; w1 = 0; w2 = 0; w3 = 0 }) ≡ 0
-unfolding quad_number number
-quad_zero = refl
-
 no-hashes : (ws : List ℕ) → hashes_of 0 ws ≡ []
 unfolding recs
 no-hashes ws = refl
@@ -49,7 +46,7 @@ module _ (p : Maybe parts-package.Package) where
     where
       by : (p : Maybe parts-package.Package) {q : Quad} {Answers : parts-package.Package → Type 0} → ((x : parts-package.Package) → Answers x → q ≡ x.combined)
           → MatchOption p (q ≡ record { w0 = 0; w1 = 0; w2 = 0; w3 = 0 }) Answers → quad_number q ≡ combined_of (package_of ws p)
-      by None f e = rw e quad_zero
+      by None f e = rw e zero_number
       by (Some x) f a = ap quad_number (f x a)
 
   pub wtxids-are : {n : ℕ} {Answers : parts-package.Package → Type 0} → ((x : parts-package.Package) → Answers x → n ≡ x.wtxids) → MatchOption p (n ≡ 0) Answers

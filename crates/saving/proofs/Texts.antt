@@ -1,6 +1,6 @@
 -- Fields: what each branch of a writer lays is the field's text.
 use Prim.Native.Nat.{ℕ, ◌+◌, ◌≤◌}
-use mathlib.Core.Path.{◌≡◌, refl, ap, ◌∙◌}
+use mathlib.Core.Path.{◌≡◌, refl}
 use mathlib.Core.Bool.{Bool, true, false}
 use mathlib.Core.List.{List, [], ◌∷◌}
 use mathlib.Core.Option.{Option, none, some}
@@ -11,11 +11,11 @@ use Rattle.ident.specs.declared.ItemKind.{ItemKind}
 use Rattle.ident.specs.Words.{hash_num, key_num}
 use Rattle.regions.specs.declared.Quad.{Quad}
 use Rattle.regions.specs.Rows.{quad_number}
-use Rattle.regions.proofs.Order.{number_quad}
 use Rattle.machine.specs.Text.{decimal, hexadecimal, bool_text, kind_letter, item_kind_text}
 use Rattle.machine.specs.Listing.{short, none_text, maybe_field, maybe_fields, key_field, item_field, owner_fields}
 use Rattle.machine.specs.State.{Owner}
 use Rattle.requests.specs.Changes.{Words}
+use Rattle.requests.proofs.HashRows.{words-number}
 use Rattle.std.specs.Prelude as rust
 use Rattle.std.specs.Prelude.{Some, None}
 use Rattle.ident.specs.declared.Key.{Key as KeyRead}
@@ -41,11 +41,6 @@ module _ {s s' : List ℕ} {a r : ℕ} where
   pub no-owner : {o : Option Owner} → o ≡ none → Lays s s' a (44 ∷ none_text) r → Lays s s' a (with_commas (maybe_fields owner_fields o)) r
   no-owner e p = rw (e, commas_one none_text) p
 
--- ---- keys, items, hashes
-
-hash_is : {h : Hash} {q : Quad} → Words h q → quad_number q ≡ hash_num h
-hash_is {h} v = ap quad_number v.words_are ∙ number_quad (hash_num h)
-
 -- ---- next poll, a cursor
 
 module _ {s s' : List ℕ} {a r : ℕ} where
@@ -62,14 +57,14 @@ module _ {s s₁ s₂ : List ℕ} {a e r : ℕ} where
   pub key-laid : (k : KeyRead) {q : Quad} → Words k.hash q → Lays s s₁ a (kind_letter k.kind ∷ []) e → Lays s₁ s₂ e (hexadecimal (quad_number q)) r
       → Lays s s₂ a (key_field short (key_num k)) r
   unfolding key_field
-  key-laid k v p q = lays_more p (rw (hash_is v) at q)
+  key-laid k v p q = lays_more p (rw (words-number v) at q)
 
   pub cursor-laid : {c : rust.Option KeyRead} {k : KeyRead} → c ≡ Some k → Lays s s₁ a (44 ∷ []) e → Lays s₁ s₂ e (key_field short (key_num k)) r
       → Lays s s₂ a (44 ∷ maybe_field (key_field short) (maybe_key_num c)) r
   cursor-laid f p q = rw f (lays_more p q)
 
   pub next_hash-laid : {h : Hash} {q : Quad} → Words h q → Lays s s₁ a (44 ∷ []) e → Lays s₁ s₂ e (hexadecimal (quad_number q)) r → Lays s s₂ a (44 ∷ hexadecimal (hash_num h)) r
-  next_hash-laid v p q = lays_more p (rw (hash_is v) at q)
+  next_hash-laid v p q = lays_more p (rw (words-number v) at q)
 
   pub owner-laid : {o : Option Owner} (w : Owner) → o ≡ some w → Lays s s₁ a (44 ∷ decimal w.connection) e → Lays s₁ s₂ e (44 ∷ decimal w.deadline) r
       → Lays s s₂ a (with_commas (maybe_fields owner_fields o)) r
