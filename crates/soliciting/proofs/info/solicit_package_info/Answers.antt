@@ -2,12 +2,12 @@
 use mathlib.Core.List.{List}
 use Prim.Native.Nat.{ℕ, ◌<◌}
 use native.Mathlib.Omega.{arith}
-use Rattle.ident.specs.declared.Connection.{Connection}
+use Rattle.ident.specs.declared.connection.Connection.{Connection}
 use Rattle.ident.specs.declared.Wtxid.{Wtxid}
 use Rattle.ident.specs.Number.{top}
 use Rattle.ident.specs.Words.{hash_num}
 use Rattle.lent_lists.specs.Lists.{hashes_in}
-use Rattle.machine.specs.declared.Clock.{Clock}
+use Rattle.machine.specs.declared.clock.Clock.{Clock}
 use Rattle.machine.specs.Limits.{word}
 use Rattle.soliciting.proofs.Subject.{subject_below}
 use Rattle.soliciting.proofs.Soliciting.{Asked, as_soliciting, solicit-barred, announced_kept, solicit-refused, may-keeps, room_left, opened-keeps, solicit_done}
