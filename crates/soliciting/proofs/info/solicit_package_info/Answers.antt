@@ -14,7 +14,7 @@ use Rattle.soliciting.proofs.Soliciting.{Asked, as_soliciting, solicit-barred, a
 use Rattle.soliciting.proofs.info.solicit_package_info.Goals as goal
 
 -- what the arguments ask
-asked : (n : Connection) (w : Wtxid) (hs : List ℕ) (clock : Clock) → n.number < word → hash_num w.0 < top → Asked
+abbrev asked : (n : Connection) (w : Wtxid) (hs : List ℕ) (clock : Clock) → n.number < word → hash_num w.0 < top → Asked
 asked n w hs clock small below = record {
   n = n.number;
   h = hash_num w.0;
