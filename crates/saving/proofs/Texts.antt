@@ -22,7 +22,7 @@ use Rattle.ident.specs.declared.Key.{Key as KeyRead}
 use Rattle.ident.specs.Words.{maybe_key_num}
 use Rattle.cursors.specs.Numbers.{time_num}
 use Rattle.lines.specs.Text.{with_commas}
-use Rattle.lines.proofs.Commas.{commas_one}
+use Rattle.lines.proofs.Commas.{commas-cons, commas_one}
 use Rattle.saving.specs.Laid.{Lays}
 use Rattle.saving.proofs.Laying.{lays_more}
 
