@@ -7,9 +7,10 @@ use oracle::Machine;
 use oracle::calls::{Call, Reply};
 use oracle::image::image;
 
+use crate::clock::processor_time;
 use crate::linked::{Prepared, Side};
 use crate::scenes::{Scene, all};
-use crate::timing::{median, micros, processor_time};
+use crate::timing::{median, micros};
 
 /// Bytes of an answer buffer that every timed call fits in.
 const ANSWER: usize = 40 * (5_000 + 100 * 4_096);

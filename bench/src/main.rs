@@ -9,6 +9,7 @@ mod announcing;
 #[cfg(feature = "source")]
 mod calls;
 mod chosen;
+mod clock;
 #[cfg(feature = "source")]
 mod linked;
 #[cfg(feature = "source")]

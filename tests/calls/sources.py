@@ -97,7 +97,7 @@ def refusals(root):
         found[snake(name)] = ([number for number, test in enumerate(tests, 3) if test], need)
     # counts is no `Ask`: its contract says them.
     counting = read(root, "crates/public_requests/specs/Counting.antt")
-    found["counts"] = ([int(number) for number in re.findall(r"→ r ≡ Refused (\d)$", counting, re.M)], "")
+    found["counts"] = ([int(number) for number in re.findall(r"→ r ≡ NotCounted (\d)$", counting, re.M)], "")
     return found
 
 

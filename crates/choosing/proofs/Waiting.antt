@@ -28,23 +28,23 @@ use Rattle.choosing.proofs.Keyed.{here, l, hash-owned, hash-free}
 -- ---- a scan from the last row to the first
 
 -- none of the rows rs is ready, and w is the least of their times
-pub record Waits (now : ℕ) (rs : List Row) (w : rust.Option ℕ) : Type 0 where
+pub record NoneReady (now : ℕ) (rs : List Row) (w : rust.Option ℕ) : Type 0 where
   pub waiting : any_ready now (map candidate_at rs) ≡ false
   pub least : option_of w ≡ least_later now (ready_times (map candidate_at rs))
 
-pub waits-told : (now : ℕ) (rs : List Row) (w : rust.Option ℕ) → Waits now rs w → option_of w ≡ wait_in now (map candidate_at rs)
+pub waits-told : (now : ℕ) (rs : List Row) (w : rust.Option ℕ) → NoneReady now rs w → option_of w ≡ wait_in now (map candidate_at rs)
 waits-told now rs w k = rw (k.waiting, k.least) refl
 
 pub none_in : (now : ℕ) (rs : List Row) → any_ready now (map candidate_at rs) ≡ true → none ≡ wait_in now (map candidate_at rs)
 none_in now rs e = rw e refl
 
 module _ (now : ℕ) (rs : List Row) (to : ℕ) where
-  pub waits_none : (i : ℕ) → to ≤ i → Waits now (part i to rs) rust.None
+  pub waits_none : (i : ℕ) → to ≤ i → NoneReady now (part i to rs) rust.None
   unfolding any_ready least_later
   waits_none i h = let z : to - i ≡ 0 = omega arith in rw z (record { waiting = refl; least = refl })
 
   pub waits-row : {r : Row} (d : Row) {j : ℕ} (i : ℕ) → j ≡ i + 1 → i < to → to ≤ length rs → r ≡ get_or rs i d → now < r.ready → {w v : rust.Option ℕ}
-      → Waits now (part j to rs) w → option_of v ≡ earlier (some r.ready) (option_of w) → Waits now (part i to rs) v
+      → NoneReady now (part j to rs) w → option_of v ≡ earlier (some r.ready) (option_of w) → NoneReady now (part i to rs) v
   unfolding any_ready least_later candidate_at
   waits-row {r} d i e m h f late k g =
       rw (part_more rs i to d m h, ← f, ← e)

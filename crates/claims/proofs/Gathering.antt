@@ -31,7 +31,7 @@ use Rattle.requests.specs.Changes.{Tells}
 use Rattle.package_stages.specs.Changes.{combined_of}
 use Rattle.package_stages.proofs.Seeking.{holding}
 use Rattle.claims.specs.declared.waiting.Claim.{Claim}
-use Rattle.claims.specs.Awaited.{awaiting, claims_in, hash_of, sum_of, is_claim_row, claim_of, noted_keys, noted_sums, Noted, ClaimsNoted}
+use Rattle.claims.specs.Awaited.{awaiting, claims_in, hash_of, sum_of, is_claim_row, claim_of, noted_keys, noted_sums, ClaimNoted, ClaimsNoted}
 use Rattle.claims.proofs.Noting.{claim-yes, claim-no, awaiting-place, rows-claims, claims_few}
 
 -- ---- one claim more
@@ -41,7 +41,7 @@ noted_more : (f : Claim → ℕ) (cs : List Claim) (m : ℕ) (c : Claim) → m <
 noted_more f cs m c l = ap (map f) (rw (add-one m) (take-suc-set cs m c l)) ∙ map-append f (take m cs) (c ∷ [])
 
 module _ (n : ℕ) (r : Row) {b : List ℕ} where
-  pub noted_none : {cs : List Claim} {m : ℕ} → Tells b (λ t. is_claim_row n t r ≡ false) → Noted n r b cs cs m m
+  pub noted_none : {cs : List Claim} {m : ℕ} → Tells b (λ t. is_claim_row n t r ≡ false) → ClaimNoted n r b cs cs m m
   noted_none {cs} {m} e = record {
     count = λ st s w. rw (claim-no n st.table r (e st s w)) (sym (add-zero m));
     keys-are = λ st s w. rw (claim-no n st.table r (e st s w)) (sym (append-nil (noted_keys (take m cs))));
@@ -66,7 +66,7 @@ module _ (n : ℕ) (r : Row) {b : List ℕ} where
 
     pub noted_one : {cs : List Claim} {m : ℕ} (c : Claim) → hash_num c.key ≡ h → m < length cs
         → Tells b (λ t. awaiting (at (wtxid h) t).«package» ≡ true → hash_num c.combined ≡ combined_of (at (wtxid h) t).«package»)
-        → Noted n r b cs (set cs m c) m (m + 1)
+        → ClaimNoted n r b cs (set cs m c) m (m + 1)
     noted_one {cs} {m} c its few is = record {
       count = λ st s w. rw (claim-yes n st.table r (e st s w));
       keys-are = λ st s w.
@@ -120,7 +120,7 @@ module _ {n : ℕ} {b : List ℕ} {cs : List Claim} {m i : ℕ} (g : Gathered n 
       let v = ap length (rows-claims n t st s refl) in
       omega (arith, g.count st s w, claims_few n t t, s.bounded.owned n)
 
-  pub gathered_more : {cs' : List Claim} {v : ℕ} → length cs' ≡ length cs → Noted n r b cs cs' m v → Gathered n b cs' v (i + 1)
+  pub gathered_more : {cs' : List Claim} {v : ℕ} → length cs' ≡ length cs → ClaimNoted n r b cs cs' m v → Gathered n b cs' v (i + 1)
   gathered_more {cs'} {v} l p = record {
     long = l ∙ g.long;
     count = λ st s w.

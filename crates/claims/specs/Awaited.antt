@@ -61,7 +61,7 @@ abbrev pub noted_sums : List Claim → List ℕ
 noted_sums cs = map (λ c. hash_num c.combined) cs
 
 -- the claim of a row, if it is one, noted behind m others
-pub record Noted (n : ℕ) (r : Row) (b : List ℕ) (cs cs' : List Claim) (m w : ℕ) : Type 0 where
+pub record ClaimNoted (n : ℕ) (r : Row) (b : List ℕ) (cs cs' : List Claim) (m w : ℕ) : Type 0 where
   pub count : Tells b (λ t. w ≡ m + length (claim_of n t r))
   pub keys-are : Tells b (λ t. noted_keys (take w cs') ≡ noted_keys (take m cs) ++ map hash_of (claim_of n t r))
   pub sums-are : Tells b (λ t. noted_sums (take w cs') ≡ noted_sums (take m cs) ++ map sum_of (claim_of n t r))

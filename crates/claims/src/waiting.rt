@@ -20,7 +20,7 @@ ghost use Rattle.store.specs.Shown.{places_in, Kept};
 ghost use Rattle.requests.specs.Changes.{Tells};
 ghost use Rattle.package_stages.specs.Changes.{combined_of};
 ghost use Rattle.announcing.specs.Answers.{KeysListed};
-ghost use Rattle.claims.specs.Awaited.{awaiting, is_claim_row, Noted, key_found, ClaimsNoted, ListedOn, entries_in, given_in, hash_found, last_of, ClaimsFit};
+ghost use Rattle.claims.specs.Awaited.{awaiting, is_claim_row, ClaimNoted, key_found, ClaimsNoted, ListedOn, entries_in, given_in, hash_found, last_of, ClaimsFit};
 
 use ident::connection::Connection;
 use lent_lists::KEY;
@@ -82,7 +82,7 @@ fn room() -> [Claim; MOST] {
 // them, and they are a slice once it is over.)
 fn note_claim(s: &[u8], n: u64, r: regions::Row, claims: &mut [Claim; MOST], m: usize) -> usize
     requires { Kept s.now × Tells s.now (λ t. is_claim_row n t r ≡ true → m < max_in_flight) }
-    ensures { Noted n r s.now claims.old claims.new m result }
+    ensures { ClaimNoted n r s.now claims.old claims.new m result }
 {
     if is_claim(s, n, r) {
         let k = announcing::evict::key_of(r);

@@ -7,17 +7,17 @@ use Rattle.outcome.specs.declared.refusal.Refusal.{Refusal}
 use Rattle.outcome.specs.Refusals.{number_of}
 use Rattle.outcome.proofs.Turns.{never_none}
 use Rattle.public_requests.specs.declared.Counts.{Counts}
-use Rattle.public_requests.specs.Counting.{Refused, counts_of, CountsOf}
+use Rattle.public_requests.specs.Counting.{NotCounted, counts_of, CountsOf}
 use Rattle.crossing.specs.Counts.{announced_out, owned_out, counts_said, HandsCounts}
 use Rattle.crossing.specs.Status.{StatusIs}
 use Rattle.crossing.proofs.Statuses.{stays}
 
 -- a refusal's number is not 0
-some_said : (k a o : ℕ) → (k ≡ 0 → ⊥) → counts_said k a o ≡ Refused k
+some_said : (k a o : ℕ) → (k ≡ 0 → ⊥) → counts_said k a o ≡ NotCounted k
 some_said zero a o h = absurd (h refl)
 some_said (suc k) a o h = refl
 
-refused-said : (e : Refusal) (a o : ℕ) → counts_said (number_of e) a o ≡ Refused (number_of e)
+refused-said : (e : Refusal) (a o : ℕ) → counts_said (number_of e) a o ≡ NotCounted (number_of e)
 refused-said e a o = some_said (number_of e) a o (never_none e)
 
 pub hands-counts : (n : ℕ) (c : Result Counts Refusal) (was was' : ℕ) {b : List ℕ} {r a o : ℕ} → CountsOf b n (counts_of c)

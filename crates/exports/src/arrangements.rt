@@ -3,7 +3,7 @@ ghost use Rattle.std.specs.Prelude.{◌≡◌};
 ghost use Rattle.words.specs.Words.{words};
 ghost use Rattle.machine.specs.Call.{On, Arrange};
 ghost use Rattle.claiming.specs.Claiming.{entries_in};
-ghost use Rattle.public_plans.specs.Parts.{PartIs};
+ghost use Rattle.sending.specs.Parts.{PartIs};
 ghost use Rattle.crossing.specs.Status.{HandsEntries};
 
 use crossing::hand_out;

@@ -29,7 +29,7 @@ use Rattle.requests.specs.Changes.{Makes, Tells}
 use Rattle.lent_lists.specs.Lists.{hashes_in}
 use Rattle.failing.proofs.Leaving.{told, owner_of_lem, free_other}
 use Rattle.handing.specs.Hands.{readied, eased}
-use Rattle.handing.specs.Hands.{Silent, Waits}
+use Rattle.handing.specs.Hands.{Silent, KeyWaits}
 
 -- ---- a ready time more
 
@@ -108,14 +108,14 @@ module _ {b b₁ : List ℕ} (k : Key) (small : k.hash < top) (n now : ℕ) (lat
 -- ---- whether it waits
 
 module _ {b : List ℕ} (n now : ℕ) (k : Key) where
-  pub waits-free : Tells b (λ t. owner_is n (at k t).owner ≡ false) → Waits n now k b b true
+  pub waits-free : Tells b (λ t. owner_is n (at k t).owner ≡ false) → KeyWaits n now k b b true
   waits-free f = record { rests = λ e st s w. inl (f st s w, w); same = λ e. refl; owns = λ e. never (sym e) }
 
-  pub waits_not : Tells b (λ t. owner_is n (at k t).owner ≡ true) → Waits n now k b b false
+  pub waits_not : Tells b (λ t. owner_is n (at k t).owner ≡ true) → KeyWaits n now k b b false
   waits_not f = record { rests = λ e. never e; same = λ e. refl; owns = λ e. f }
 
   pub waits-eased : {b₁ : List ℕ} → Tells b (λ t. releasable n (at k t) ≡ true) → Tells b (λ t. owner_is n (at k t).owner ≡ true → Silent n (at k t))
-      → Makes b b₁ (λ t. Unit {0}) (eased n now k) → Waits n now k b b₁ true
+      → Makes b b₁ (λ t. Unit {0}) (eased n now k) → KeyWaits n now k b b₁ true
   waits-eased f g h = record { rests = λ e st s w. inr (f st s w, g st s w (and_left _ _ (f st s w)), h st s w tt); same = λ e. never (sym e); owns = λ e. never (sym e) }
 
 pub no-parents : (u : List ℕ) {hs : List ℕ} → length u ≡ 0 → hashes_in u ≡ hs → hs ≡ []

@@ -59,7 +59,7 @@ Rests n now k b' st =
     ⊎ ((releasable n (at k st.table) ≡ true) × Silent n (at k st.table) × Writes b' (on_table (eased n now k st.table) st))
 
 -- r says that the key k waits; else n owns the request there
-pub record Waits (n now : ℕ) (k : Key) (b b' : List ℕ) (r : Bool) : Type 0 where
+pub record KeyWaits (n now : ℕ) (k : Key) (b b' : List ℕ) (r : Bool) : Type 0 where
   pub rests : r ≡ true → (st : State) → Sound st → Writes b st → Rests n now k b' st
   pub same : r ≡ false → b' ≡ b
   pub owns : r ≡ false → Tells b (λ t. owner_is n (at k t).owner ≡ true)

@@ -18,7 +18,7 @@ ghost use Rattle.lent_lists.specs.Lists.{hashes_in};
 ghost use Rattle.requests.specs.Changes.{Makes, Tells};
 ghost use Rattle.handing.specs.Hands.{eased};
 ghost use Rattle.merging.specs.Merges.{InOrder};
-ghost use Rattle.handing.specs.Hands.{conns_of, Peers, announce_for, Roomy, KeysMerged, Silent, Waits};
+ghost use Rattle.handing.specs.Hands.{conns_of, Peers, announce_for, Roomy, KeysMerged, Silent, KeyWaits};
 
 use ident::connection::Connection;
 use lent_lists::{KEY, KEYS, LIST};
@@ -196,7 +196,7 @@ pub fn waits(
     guess: Option<usize>,
 ) -> Option<usize>
     requires { Kept s.old }
-    ensures { Waits n.number clock (key_num k) s.old s.new (is_some result) }
+    ensures { KeyWaits n.number clock (key_num k) s.old s.new (is_some result) }
 {
     let found = look_up(s, k, n, guess);
     if !found.is_owner {

@@ -1,7 +1,7 @@
 -- The order of keys, and that no two keys share a place.
 use mathlib.Core.Path.{◌≡◌, refl, sym, ap, ◌∙◌}
 use Rattle.std.specs.declared.cmp.Ordering.{Ordering}
-use Prim.Native.Nat.{ℕ, ◌+◌, ◌*◌, ◌<◌}
+use Prim.Native.Nat.{ℕ, ◌+◌, ◌*◌, ◌<◌, ◌≤◌}
 use native.Mathlib.Omega.{arith}
 use Rattle.ident.specs.declared.Kind.{Kind}
 use Rattle.ident.specs.declared.Kind.TheVariants.{Txid, Wtxid}
@@ -84,6 +84,11 @@ place_same a b g g' e = parts a.kind b.kind a.hash b.hash g g' e
 -- and so of the keys that the code holds
 pub same_place : (a b : D.Key) → Four a.hash → Four b.hash → place (key_num a) ≡ place (key_num b) → a ≡ b
 same_place a b f g e = key_same a b f g (place_same (key_num a) (key_num b) (hash_below a.hash f) (hash_below b.hash g) e)
+
+-- places from 2^256 on are those of Wtxid keys
+pub is-wtxid : (k : Kind) (h : ℕ) → h < top → top ≤ base k + h → k ≡ Wtxid
+is-wtxid Txid h s l = absurd (omega arith)
+is-wtxid Wtxid h s l = refl
 
 -- "two identities of one hash"
 pub other_twice : (k : Key) → other (other k) ≡ k

@@ -31,7 +31,7 @@ use Rattle.outcome.proofs.Turns.{never_none, connection_none, connection_some, c
 use Rattle.machine.proofs.Tests.{test}
 use Rattle.public_plans.specs.declared.Selection.{Selection}
 use Rattle.public_plans.specs.Entries.{entries_of, planned_of}
-use Rattle.public_plans.specs.Parts.{connections_in, PartIs}
+use Rattle.sending.specs.Parts.{connections_in, PartIs}
 use Rattle.public_plans.proofs.Entered.{length_from, length-entries}
 use Rattle.reading.specs.Line.{Line, Asks, Take, Send}
 use Rattle.asking.specs.Calls.{answer_buffer}

@@ -4,7 +4,7 @@ ghost use Rattle.std.specs.Prelude.{◌≡◌, ◌+◌, ◌≤◌, length, Match
 ghost use Rattle.words.specs.Words.{words};
 ghost use Rattle.regions.specs.Order.{Sorted};
 ghost use Rattle.machine.specs.Claim.{part_of};
-ghost use Rattle.public_plans.specs.Parts.{connections_in};
+ghost use Rattle.sending.specs.Parts.{connections_in};
 ghost use Rattle.machine.specs.Fields.{rest};
 ghost use Rattle.reading.specs.Line.{Send, Part};
 ghost use Rattle.reading.specs.Lists.{send_line};

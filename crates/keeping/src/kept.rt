@@ -5,7 +5,7 @@ ghost use Rattle.std.specs.Prelude.{◌≡◌, ◌*◌, ◌≤◌, List, [], len
 ghost use Rattle.machine.specs.State.{Entry};
 ghost use Rattle.machine.specs.Call.{entry_bytes};
 ghost use Rattle.claiming.specs.Claiming.{entries_from, entries_in};
-ghost use Rattle.public_plans.specs.Parts.{connections_in};
+ghost use Rattle.sending.specs.Parts.{connections_in};
 ghost use Rattle.regions.specs.Order.{Sorted};
 ghost use Rattle.printing.specs.Given.{answer_room, most_entries};
 ghost use Rattle.printing.specs.Kept.{KeptLists, no_lists};

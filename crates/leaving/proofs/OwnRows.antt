@@ -37,20 +37,20 @@ use Rattle.requests.proofs.Keeping.{sized_of}
 use Rattle.lent_lists.proofs.Answer.{written_more, written_none}
 use Rattle.package_stages.specs.Dead.{filter}
 use Rattle.package_stages.proofs.Compacting.{filter-append, filter_one, filter_none}
-use Rattle.leaving.specs.Parts.{is_of, keys_in, PutIf, OwnKeys}
+use Rattle.leaving.specs.Parts.{is_of, row_keys, PutIf, OwnKeys}
 use Rattle.cutting.proofs.Lessening.{filter-fewer}
 
 map-append : {A B : Type 0} (f : A → B) (a b : List A) → map f (a ++ b) ≡ map f a ++ map f b
 map-append f [] b = refl
 map-append f (x ∷ a) b = rw (map-append f a b)
 
-pub keys-append : (n : ℕ) (a b : List Row) → keys_in n (a ++ b) ≡ keys_in n a ++ keys_in n b
+pub keys-append : (n : ℕ) (a b : List Row) → row_keys n (a ++ b) ≡ row_keys n a ++ row_keys n b
 keys-append n a b = ap (map key_at) (filter-append (is_of n) a b) ∙ map-append key_at (filter (is_of n) a) (filter (is_of n) b)
 
 -- ---- of a table
 
 module _ (n : ℕ) (r : Request) where
-  none_in_lem : (cs : List Candidate) → count_in (λ m. eqb m n) cs ≡ 0 → keys_in n (map (row_of r) cs) ≡ []
+  none_in_lem : (cs : List Candidate) → count_in (λ m. eqb m n) cs ≡ 0 → row_keys n (map (row_of r) cs) ≡ []
   unfolding filter count_in
   none_in_lem [] h = refl
   none_in_lem (c ∷ cs) h = elim (test (eqb c.connection n)) [
@@ -58,7 +58,7 @@ module _ (n : ℕ) (r : Request) where
     | inr e ↦ let m : count_in (λ m. eqb m n) cs ≡ 0 = omega (arith, rw e at h) in rw (conn-row r c, e) (none_in_lem cs m)
   ]
 
-  one_in : (cs : List Candidate) → count_in (λ m. eqb m n) cs ≤ 1 → keys_in n (map (row_of r) cs) ≡ (if has n cs then r.key ∷ [] else [])
+  one_in : (cs : List Candidate) → count_in (λ m. eqb m n) cs ≤ 1 → row_keys n (map (row_of r) cs) ≡ (if has n cs then r.key ∷ [] else [])
   unfolding filter count_in has key_at
   one_in [] h = refl
   one_in (c ∷ cs) h = elim (test (eqb c.connection n)) [
@@ -66,28 +66,28 @@ module _ (n : ℕ) (r : Request) where
     | inr e ↦ let m : count_in (λ m. eqb m n) cs ≤ 1 = omega (arith, rw e at h) in rw (conn-row r c, e) (one_in cs m)
   ]
 
-pub keys_of_rows : (n : ℕ) (t : Table) → All DistinctIn t → keys_in n (rows_of t) ≡ keys_of n t
+pub keys_of_rows : (n : ℕ) (t : Table) → All DistinctIn t → row_keys n (rows_of t) ≡ keys_of n t
 unfolding keys_of each rows_for
 keys_of_rows n [] d = unfold filter in refl
 keys_of_rows n (r ∷ t) d =
     keys-append n (map (row_of r) r.candidates) (rows_of t)
-    ∙ ap (λ (l : List Key). l ++ keys_in n (rows_of t)) (one_in n r r.candidates (d.0 n))
+    ∙ ap (λ (l : List Key). l ++ row_keys n (rows_of t)) (one_in n r r.candidates (d.0 n))
     ∙ ap (λ (l : List Key). (if has n r.candidates then r.key ∷ [] else []) ++ l) (keys_of_rows n t d.1)
     ∙ elim (test (has n r.candidates)) [ inl e ↦ rw e | inr e ↦ rw e ]
 
 -- ---- there is room for them
 
-count-rows : (n : ℕ) (rs : List Row) → length (keys_in n rs) ≡ count_rows (is_of n) rs
+count-rows : (n : ℕ) (rs : List Row) → length (row_keys n rs) ≡ count_rows (is_of n) rs
 unfolding filter count_rows
 count-rows n [] = refl
 count-rows n (r ∷ rs) = elim (test (is_of n r)) [ inl e ↦ rw (e, count-rows n rs) (omega arith) | inr e ↦ rw (e, count-rows n rs) (omega arith) ]
 
-pub keys_few : (n : ℕ) {b : List ℕ} (k : Kept b) → length (keys_in n (rows_of k.state.table)) ≤ min max_peer_announcements (limit_in b)
+pub keys_few : (n : ℕ) {b : List ℕ} (k : Kept b) → length (row_keys n (rows_of k.state.table)) ≤ min max_peer_announcements (limit_in b)
 keys_few n {b} k =
     let t = k.state.table in
     let s = k.sound in
     let z = sizes k.writes in
-    let x : length (keys_in n (rows_of t)) ≤ max_peer_announcements = rw (count-rows n (rows_of t), by_rows t n) (s.bounded.each n) in
+    let x : length (row_keys n (rows_of t)) ≤ max_peer_announcements = rw (count-rows n (rows_of t), by_rows t n) (s.bounded.each n) in
     let y = filter-fewer (is_of n) (rows_of t) in
     let l = length-map (filter (is_of n) (rows_of t)) key_at in
     omega (arith, sized_of k.state s)
@@ -96,15 +96,15 @@ keys_few n {b} k =
 
 pub record Owning (n : ℕ) (b u₀ u : List ℕ) (c i : ℕ) : Type 0 where
   pub long : length u ≡ length u₀
-  pub count : (f : Flat) → Shows b f → c ≡ length (keys_in n (take i f.rows))
-  pub bytes : (f : Flat) → Shows b f → u ≡ written (keys_answer (keys_in n (take i f.rows))) u₀
+  pub count : (f : Flat) → Shows b f → c ≡ length (row_keys n (take i f.rows))
+  pub bytes : (f : Flat) → Shows b f → u ≡ written (keys_answer (row_keys n (take i f.rows))) u₀
 
 pub owning_none : (n : ℕ) (b u : List ℕ) → Owning n b u u 0 0
 unfolding filter
 owning_none n b u = record { long = refl; count = λ f h. refl; bytes = λ f h. written_none u }
 
 module _ {n : ℕ} {b u₀ u : List ℕ} {c i : ℕ} (v : Owning n b u₀ u c i) where
-  keys_next : (f : Flat) (d : Row) → i < length f.rows → keys_in n (take (i + 1) f.rows) ≡ keys_in n (take i f.rows) ++ keys_in n (get_or f.rows i d ∷ [])
+  keys_next : (f : Flat) (d : Row) → i < length f.rows → row_keys n (take (i + 1) f.rows) ≡ row_keys n (take i f.rows) ++ row_keys n (get_or f.rows i d ∷ [])
   keys_next f d l = rw (add-one i, take-suc f.rows i d l) (keys-append n (take i f.rows) (get_or f.rows i d ∷ []))
 
   -- room for one key more
@@ -113,11 +113,12 @@ module _ {n : ℕ} {b u₀ u : List ℕ} {c i : ℕ} (v : Owning n b u₀ u c i)
   owning-room k r room l e own =
       let rs = rows_of k.state.table in
       let f = flat_of k.state in
-      let x : length (keys_in n (take (i + 1) rs)) ≡ length (keys_in n (take i rs)) + 1 = ap length (keys_next f r l) ∙
-      length-append (keys_in n (take i rs)) (keys_in n (get_or rs i r ∷ [])) ∙ ap (λ (q : Row). length (keys_in n (take i rs)) + length (keys_in n (q ∷ []))) (sym e) ∙
-      ap (λ (q : List Row). length (keys_in n (take i rs)) + length (map key_at q)) (filter_one (is_of n) r (eq-eqb r.conn n own)) in
-      let y : length (keys_in n rs) ≡ length (keys_in n (take (i + 1) rs)) + length (keys_in n (drop (i + 1) rs)) = ap (λ (q : List Row). length (keys_in n q)) (sym (take-append-drop (i + 1) rs)) ∙
-      ap length (keys-append n (take (i + 1) rs) (drop (i + 1) rs)) ∙ length-append (keys_in n (take (i + 1) rs)) (keys_in n (drop (i + 1) rs)) in
+      let x : length (row_keys n (take (i + 1) rs)) ≡ length (row_keys n (take i rs)) + 1 = ap length (keys_next f r l) ∙
+      length-append (row_keys n (take i rs)) (row_keys n (get_or rs i r ∷ [])) ∙ ap (λ (q : Row). length (row_keys n (take i rs)) + length (row_keys n (q ∷ []))) (sym e) ∙
+      ap (λ (q : List Row). length (row_keys n (take i rs)) + length (map key_at q)) (filter_one (is_of n) r (eq-eqb r.conn n own)) in
+      let y : length (row_keys n rs) ≡ length (row_keys n (take (i + 1) rs)) + length (row_keys n (drop (i + 1) rs)) =
+      ap (λ (q : List Row). length (row_keys n q)) (sym (take-append-drop (i + 1) rs)) ∙
+      ap length (keys-append n (take (i + 1) rs) (drop (i + 1) rs)) ∙ length-append (row_keys n (take (i + 1) rs)) (row_keys n (drop (i + 1) rs)) in
       let z = keys_few n k in
       let w = v.count f k.writes in
       omega (arith, v.long)
@@ -128,21 +129,21 @@ module _ {n : ℕ} {b u₀ u : List ℕ} {c i : ℕ} (v : Owning n b u₀ u c i)
     | inl e ↦ let bytes : u₁ ≡ splice u (key_bytes * c) (key_answer (key_at r)) = rw e at p.bytes in
         let count : w ≡ c + 1 = rw e at p.count in
         let fits = room (eqb-true r.conn n e) in
-        let next : (f : Flat) → Shows b f → keys_in n (take (i + 1) f.rows) ≡ keys_in n (take i f.rows) ++ (key_at r ∷ []) = λ f h. keys_next f r (inside f h) ∙
-        ap (λ (q : Row). keys_in n (take i f.rows) ++ keys_in n (q ∷ [])) (sym (is f r h)) ∙ ap (λ (q : List Row). keys_in n (take i f.rows) ++ map key_at q) (filter_one (is_of n) r e) in
+        let next : (f : Flat) → Shows b f → row_keys n (take (i + 1) f.rows) ≡ row_keys n (take i f.rows) ++ (key_at r ∷ []) = λ f h. keys_next f r (inside f h) ∙
+        ap (λ (q : Row). row_keys n (take i f.rows) ++ row_keys n (q ∷ [])) (sym (is f r h)) ∙ ap (λ (q : List Row). row_keys n (take i f.rows) ++ map key_at q) (filter_one (is_of n) r e) in
         record {
           long = ap length bytes ∙ length-splice u (key_bytes * c) (key_answer (key_at r)) (omega (arith, length-key_answer (key_at r))) ∙ v.long;
-          count = λ f h. count ∙ sym (ap length (next f h) ∙ length-append (keys_in n (take i f.rows)) (key_at r ∷ []) ∙ ap (λ (x : ℕ). x + 1) (sym (v.count f h)));
+          count = λ f h. count ∙ sym (ap length (next f h) ∙ length-append (row_keys n (take i f.rows)) (key_at r ∷ []) ∙ ap (λ (x : ℕ). x + 1) (sym (v.count f h)));
           bytes = λ f h.
-              let ks = keys_in n (take i f.rows) in
+              let ks = row_keys n (take i f.rows) in
               let l : key_bytes * length ks + key_bytes ≤ length u₀ = omega (arith, v.count f h, v.long) in
               bytes ∙ ap (λ (x : ℕ). splice u (key_bytes * x) (key_answer (key_at r))) (v.count f h) ∙ ap (λ (x : List ℕ). splice x (key_bytes * length ks) (key_answer (key_at r))) (v.bytes f h) ∙
               written_more ks (key_at r) u₀ l ∙ ap (λ (x : List Key). written (keys_answer x) u₀) (sym (next f h));
         }
     | inr e ↦ let bytes : u₁ ≡ u = rw e at p.bytes in
         let count : w ≡ c + 0 = rw e at p.count in
-        let next : (f : Flat) → Shows b f → keys_in n (take (i + 1) f.rows) ≡ keys_in n (take i f.rows) = λ f h. keys_next f r (inside f h) ∙ ap (λ (q : Row). keys_in n (take i f.rows) ++
-        keys_in n (q ∷ [])) (sym (is f r h)) ∙ ap (λ (q : List Row). keys_in n (take i f.rows) ++ map key_at q) (filter_none (is_of n) r e) ∙ append-nil (keys_in n (take i f.rows)) in
+        let next : (f : Flat) → Shows b f → row_keys n (take (i + 1) f.rows) ≡ row_keys n (take i f.rows) = λ f h. keys_next f r (inside f h) ∙ ap (λ (q : Row). row_keys n (take i f.rows) ++
+        row_keys n (q ∷ [])) (sym (is f r h)) ∙ ap (λ (q : List Row). row_keys n (take i f.rows) ++ map key_at q) (filter_none (is_of n) r e) ∙ append-nil (row_keys n (take i f.rows)) in
         record {
           long = ap length bytes ∙ v.long;
           count = λ f h. count ∙ add-zero c ∙ v.count f h ∙ ap length (sym (next f h));
@@ -156,8 +157,8 @@ module _ {n : ℕ} {b u₀ u : List ℕ} {c i : ℕ} (v : Owning n b u₀ u c i)
     keys = λ st s w. v.bytes (flat_of st) w ∙ ap (λ (x : List Key). written (keys_answer x) u₀) (whole st s w);
   }
     where
-      whole : (st : State) → Sound st → Writes b st → keys_in n (take i (rows_of st.table)) ≡ keys_of n st.table
-      whole st s w = ap (keys_in n) (take_all i (rows_of st.table) (all (flat_of st) w)) ∙ keys_of_rows n st.table (distinct_in st.table s.bounded.once)
+      whole : (st : State) → Sound st → Writes b st → row_keys n (take i (rows_of st.table)) ≡ keys_of n st.table
+      whole st s w = ap (row_keys n) (take_all i (rows_of st.table) (all (flat_of st) w)) ∙ keys_of_rows n st.table (distinct_in st.table s.bounded.once)
 
 -- ---- one row
 

@@ -13,7 +13,7 @@ use Rattle.machine.specs.Leave.{drop_at_key}
 use Rattle.store.specs.Shown.{Kept}
 use Rattle.requests.specs.Changes.{Tells}
 use Rattle.merging.specs.Merges.{InOrder}
-use Rattle.handing.specs.Hands.{Roomy, KeysMerged, Waits}
+use Rattle.handing.specs.Hands.{Roomy, KeysMerged, KeyWaits}
 use Rattle.leaving.specs.Parting.{key_out, CutListed, Going, Underway}
 use Rattle.leaving.proofs.Walking.{going_kept, next_key, turn_waits}
 use Rattle.leaving.proofs.Departing.{start_inside, part_order, cut_kept, cut-owned, cut-room, turn_drops}
@@ -23,7 +23,7 @@ pub keys_inside : {n now : ℕ} {b u : List ℕ} {own from i parents : ℕ} → 
 keys_inside g = start_inside g.going
 
 module _ {n now : ℕ} {st : State} {u₀ b u : List ℕ} {own from i parents : ℕ} (g : Going n now st u₀ b u own from i parents) (late : now < word) where
-  module _ (k : Key) (h : i < own) (e : k ≡ key_out u i) {b₁ : List ℕ} {r : Bool} (w : Waits n now k b b₁ r) where
+  module _ (k : Key) (h : i < own) (e : k ≡ key_out u i) {b₁ : List ℕ} {r : Bool} (w : KeyWaits n now k b b₁ r) where
     pub turn_rests : r ≡ true → Going n now st u₀ b₁ u own from (i + 1) parents
     turn_rests q = turn_waits g late (next_key g k h e) (w.rests q (on_table g.table st) g.sound g.writes)
 

@@ -47,8 +47,8 @@ in_parts m n now ks (k ∷ js) t =
 abbrev pub is_of : ℕ → Row → Bool
 is_of n r = eqb r.conn n
 
-abbrev pub keys_in : ℕ → List Row → List Key
-keys_in n rs = map key_at (filter (is_of n) rs)
+abbrev pub row_keys : ℕ → List Row → List Key
+row_keys n rs = map key_at (filter (is_of n) rs)
 
 -- the key of a row of n, written as the c-th of the buffer
 pub record PutIf (n : ℕ) (r : Row) (u u' : List ℕ) (c w : ℕ) : Type 0 where

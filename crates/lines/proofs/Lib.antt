@@ -7,3 +7,4 @@ pub mod Sameness
 pub mod Hashes
 pub mod HashWords
 pub mod Finding
+pub mod Commas

@@ -6,8 +6,9 @@ use mathlib.Core.List.{List, [], ◌∷◌, ◌++◌}
 use mathlib.Core.Option.{Option, none, some}
 use lib.ListN.{length, drop_of_length-le}
 use Rattle.machine.specs.State.{Owner, is_some}
-use Rattle.machine.specs.Listing.{Line, HeadLine, RequestLine, CandidateLine, Rest, candidate_then, request_then, rest_of}
+use Rattle.machine.specs.Listing.{Line, HeadLine, RequestLine, CandidateLine, Rest, rest_of}
 use Rattle.machine.proofs.Tests.{never}
+use Rattle.machine.proofs.FrontLines.{request_first, candidate_first}
 use Rattle.heavy.specs.Counters.{names_of, counts_of}
 use Rattle.heavy.specs.Streams.{owners_of, line_connections, line_owners}
 use Rattle.listed_lines.specs.Given.{lines_of_text}
@@ -51,16 +52,8 @@ record Tail (l : Line) (ls : List Line) : Type 0 where
 tail : (l : Line) (ls : List Line) {q : Rest} → rest_of (l ∷ ls) ≡ some q → Tail l ls
 unfolding rest_of
 tail (HeadLine s) ls e = never (ap is_some e)
-tail (RequestLine r) ls {q} e = go (rest_of ls) refl e
-  where
-    go : (o : Option Rest) → rest_of ls ≡ o → request_then r o ≡ some q → Tail (RequestLine r) ls
-    go none g d = never (ap is_some d)
-    go (some z) g d = record { behind_first = tt; rest = z; list = g }
-tail (CandidateLine c) ls {q} e = go (rest_of ls) refl e
-  where
-    go : (o : Option Rest) → rest_of ls ≡ o → candidate_then c o ≡ some q → Tail (CandidateLine c) ls
-    go none g d = never (ap is_some d)
-    go (some z) g d = record { behind_first = tt; rest = z; list = g }
+tail (RequestLine r) ls e = let w = request_first r ls e in record { behind_first = tt; rest = w.rest; list = w.list }
+tail (CandidateLine c) ls e = let w = candidate_first c ls e in record { behind_first = tt; rest = w.rest; list = w.list }
 
 -- ---- any pass: what it makes of numbers, from what it has
 

@@ -1,14 +1,14 @@
 -- One line of a text that lists requests: what every pass over the lines of a listing goes by.
 use Prim.Native.Nat.{ℕ, ◌≤◌}
 use mathlib.Core.Path.{◌≡◌, refl, sym, ap, ◌∙◌}
-use mathlib.Core.Bool.{Bool, true, false}
+use mathlib.Core.Bool.{false}
 use mathlib.Core.List.{List, [], ◌∷◌}
-use mathlib.Core.Option.{Option, none, some}
+use mathlib.Core.Option.{Option, none, some, some-injective}
 use lib.ListN.{length, drop, drop_of_length-le}
-use Rattle.std.specs.Prelude.{if◌then◌else◌}
 use Rattle.machine.specs.State.{Candidate, Request, Table, State, with_candidates, is_some}
-use Rattle.machine.specs.Listing.{Line, HeadLine, RequestLine, CandidateLine, Rest, falls, candidate_then, request_then, rest_of, one_more, text_lines, lines_in}
+use Rattle.machine.specs.Listing.{Line, HeadLine, RequestLine, CandidateLine, Rest, falls, rest_of, one_more, text_lines, lines_in}
 use Rattle.machine.proofs.Tests.{never}
+use Rattle.machine.proofs.FrontLines.{request_first, candidate_first}
 use Rattle.listed_lines.specs.Given.{LineAt, line_in, lines_of_text, LineRead}
 use Rattle.listed_form.specs.Given.{Body, requests_only}
 
@@ -41,6 +41,31 @@ pub record AfterRequest (b : List ℕ) (end : ℕ) (r : Request) (q : Rest) : Ty
   pub rises : falls r.key table ≡ false
   pub body : Body b end (record { candidates = candidates; table = table })
 
+-- behind a first line nothing stands
+abbrev pub Leaves : List ℕ → ℕ → Line → Rest → Type 0
+Leaves b end (HeadLine s) q = ⊥
+Leaves b end (RequestLine r) q = AfterRequest b end r q
+Leaves b end (CandidateLine c) q = AfterCandidate b end c q
+
+-- the lines ls stand from an index on, behind the line l
+pub leaves : (b : List ℕ) (end : ℕ) {ls : List Line} → end ≤ length b → lines_of_text (drop end b) ≡ some ls → (l : Line) {q : Rest} → rest_of (l ∷ ls) ≡ some q → Leaves b end l q
+unfolding rest_of
+leaves b end i a (HeadLine s) e = never (ap is_some e)
+leaves b end {ls} i a (RequestLine r) e =
+    let w = request_first r ls e in
+    rw (← w.parts)
+    (record {
+      candidates = w.rest.candidates;
+      table = w.rest.table;
+      first = refl;
+      parts = refl;
+      rises = w.rises;
+      body = record { inside = i; lines = ls; are = a; list = w.list };
+    })
+leaves b end {ls} i a (CandidateLine c) e =
+    let w = candidate_first c ls e in
+    rw (← w.parts) (record { candidates = w.rest.candidates; parts = refl; body = record { inside = i; lines = ls; are = a; list = w.list } })
+
 module _ {b ws ps : List ℕ} {at : ℕ} {l : LineAt} (p : LineRead b at ws ps l) {q : Rest} (y : Body b at q) where
   line_there : Parted (line_in ws ps l.value) (lines_of_text (drop l.end b)) y.lines
   line_there = parted (line_in ws ps l.value) (lines_of_text (drop l.end b)) (sym p.is ∙ y.are)
@@ -49,57 +74,20 @@ module _ {b ws ps : List ℕ} {at : ℕ} {l : LineAt} (p : LineRead b at ws ps l
   pub no-bad-line : {X : Type 0} → line_in ws ps l.value ≡ none → X
   no-bad-line e = let d = line_there in never (ap is_some (sym e ∙ d.is))
 
-  listed : (m : Line) → line_in ws ps l.value ≡ some m → rest_of (m ∷ line_there.others) ≡ some q
-  listed m e =
+  behind_line : (m : Line) → line_in ws ps l.value ≡ some m → Leaves b l.end m q
+  behind_line m e =
       let d = line_there in
-      let g : m ≡ d.first = same (sym e ∙ d.is) in
-      ap rest_of (ap (λ (x : Line). x ∷ d.others) g ∙ sym d.parts) ∙ y.list
-    where
-      same : {m n : Line} → some m ≡ some n → m ≡ n
-      same e = cc
+      let g : m ≡ d.first = some-injective m d.first (sym e ∙ d.is) in
+      leaves b l.end p.inside d.are m (ap rest_of (ap (λ (x : Line). x ∷ d.others) g ∙ sym d.parts) ∙ y.list)
 
   pub no-head-line : {X : Type 0} {s : State} → line_in ws ps l.value ≡ some (HeadLine s) → X
-  unfolding rest_of
-  no-head-line {s = s} e = never (ap is_some (listed (HeadLine s) e))
+  no-head-line {s = s} e = absurd (behind_line (HeadLine s) e)
 
   pub after-candidate : (c : Candidate) → line_in ws ps l.value ≡ some (CandidateLine c) → AfterCandidate b l.end c q
-  unfolding rest_of
-  after-candidate c e = go (rest_of line_there.others) refl (listed (CandidateLine c) e)
-    where
-      go : (o : Option Rest) → rest_of line_there.others ≡ o → candidate_then c o ≡ some q → AfterCandidate b l.end c q
-      go none g d = never (ap is_some d)
-      go (some r) g d =
-          let w : record { candidates = c ∷ r.candidates; table = r.table } ≡ q = same d in
-          rw (← w) (record { candidates = r.candidates; parts = refl; body = record { inside = p.inside; lines = line_there.others; are = line_there.are; list = g } })
-        where
-          same : {m n : Rest} → some m ≡ some n → m ≡ n
-          same e = cc
+  after-candidate c e = behind_line (CandidateLine c) e
 
   pub after-request : (r : Request) → line_in ws ps l.value ≡ some (RequestLine r) → AfterRequest b l.end r q
-  unfolding rest_of
-  after-request r e = go (rest_of line_there.others) refl (listed (RequestLine r) e)
-    where
-      at_key : (z : Rest) (t : Bool) → falls r.key z.table ≡ t → rest_of line_there.others ≡ some z
-          → (if t then none else some (record { candidates = []; table = with_candidates z.candidates r ∷ z.table })) ≡ some q → AfterRequest b l.end r q
-      at_key z true f g d = never (ap is_some d)
-      at_key z false f g d =
-          let w : record { candidates = []; table = with_candidates z.candidates r ∷ z.table } ≡ q = same d in
-          rw (← w)
-          (record {
-            candidates = z.candidates;
-            table = z.table;
-            first = refl;
-            parts = refl;
-            rises = f;
-            body = record { inside = p.inside; lines = line_there.others; are = line_there.are; list = g };
-          })
-        where
-          same : {m n : Rest} → some m ≡ some n → m ≡ n
-          same e = cc
-
-      go : (o : Option Rest) → rest_of line_there.others ≡ o → request_then r o ≡ some q → AfterRequest b l.end r q
-      go none g d = never (ap is_some d)
-      go (some z) g d = at_key z (falls r.key z.table) refl g d
+  after-request r e = behind_line (RequestLine r) e
 
 -- ---- behind the last line
 

@@ -11,7 +11,8 @@ use Rattle.machine.specs.Fields.{number_of, bool_of, hash_of, fields, rest, taki
 use Rattle.machine.specs.Listing.{HeadLine, RequestLine, CandidateLine, short, key_in, item_in, maybe_in, none_or, list_then, owner_then, package_then, head_of, request_of, request_with, candidate_of}
 use Rattle.reading.specs.Given.{At}
 use Rattle.listed_lines.specs.Given.{Took, longest_list}
-use Rattle.listed_lines.proofs.Taking.{pass, stop, ending_end, ending_more}
+use Rattle.reading.proofs.Taking.{ending_end, ending_more}
+use Rattle.listed_lines.proofs.Taking.{pass, stop}
 use Rattle.listed_lines.proofs.Missing.{NotEmpty}
 
 -- ---- owner

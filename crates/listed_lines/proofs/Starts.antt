@@ -155,7 +155,7 @@ begins_with c m n = rw (ne_eqb c 44 n) (pushed (fields m))
     pushed [] = record { first = []; others = []; parts = refl }
     pushed (f ∷ fs) = record { first = f; others = fs; parts = refl }
 
-same_head : {f g : List ℕ} {fs gs : List (List ℕ)} → f ∷ fs ≡ g ∷ gs → f ≡ g
+pub same_head : {f g : List ℕ} {fs gs : List (List ℕ)} → f ∷ fs ≡ g ∷ gs → f ≡ g
 same_head e = cc
 
 pub keyed-no-candidate : (l : List ℕ) → keyed l ≡ true → (c : Candidate) → line_of short (fields l) ≡ some (CandidateLine c) → ⊥

@@ -1,18 +1,19 @@
--- Fields of a line one after the other, its first field, and its end.
-use Prim.Native.Nat.{ℕ, ◌+◌, ◌-◌, ◌<◌, ◌≤◌}
+-- Fields of a line one after the other, and its first field.
+use Prim.Native.Nat.{ℕ, ◌+◌, ◌-◌}
 use mathlib.Core.Path.{◌≡◌, refl, sym, ap, ◌∙◌}
 use mathlib.Core.List.{List, ◌∷◌}
 use mathlib.Core.Option.{Option, none, some}
 use native.Mathlib.Omega.{arith}
 use lib.ListN.{length, take, drop}
-use Rattle.machine.specs.Fields.{before, fields, rest, with_value, taking, ending}
+use Rattle.machine.specs.Fields.{before, fields, rest, with_value, taking}
 use Rattle.machine.specs.Listing.{Line}
-use Rattle.lines.proofs.Splitting.{rest_field, rest_past, rest_start}
+use Rattle.lines.proofs.Splitting.{rest_field, rest_start}
 use Rattle.lines.specs.Values.{value_in}
 use Rattle.machine.proofs.Parting.{take-before}
 use Rattle.std.specs.Prelude as Rust
 use Rattle.reading.specs.declared.fields.Parsed.{Parsed}
 use Rattle.reading.specs.Given.{At, parsed_in}
+use Rattle.reading.proofs.Taking.{taking-field}
 use Rattle.listed_lines.specs.Given.{Reader, then_in, FirstParsed, Took}
 
 -- ---- what was read
@@ -25,10 +26,6 @@ module _ {A : Type 0} {read : Reader A} {l : List ℕ} {fs : List (List ℕ)} {o
   pass k g = p.is k ∙ ap (then_in l k) g
 
 -- ---- the first field
-
-pub taking-field : {A : Type 0} (read : List ℕ → Option A) (k : A → List (List ℕ) → Option Line) (f : List ℕ) (fs : List (List ℕ)) → taking read k (f ∷ fs) ≡ with_value (read f) (λ v. k v fs)
-unfolding taking
-taking-field read k f fs = refl
 
 module _ {A : Type 0} (read : List ℕ → Option A) (l : List ℕ) {to : ℕ} (g : to ≡ 0 + length (before 44 (drop 0 l))) where
   first : fields l ≡ take to l ∷ rest l (to + 1)
@@ -54,11 +51,3 @@ module _ {T A : Type 0} (f : T → A) (read : List ℕ → Option A) {Answers : 
   pub first_parsed : (r : Rust.Option (Parsed T)) → FirstParsed Answers l r → Took (taking read) l (fields l) (parsed_in f r)
   first_parsed Rust.None p = first_not read l {to = length (before 44 l)} (omega arith) (rw (first_lent l refl) (sym (says _ _ p.is)))
   first_parsed (Rust.Some x) p = first_is read l (omega (arith, p.is.0)) (rw (first_lent l p.is.0) (sym (says _ _ p.is.1)))
-
--- ---- where the line ends
-
-pub ending_end : (l : List ℕ) (e : ℕ) (o : Option Line) → length l ≤ e → ending o (rest l (e + 1)) ≡ o
-ending_end l e o h = ap (ending o) (rest_past l (e + 1) (omega arith))
-
-pub ending_more : (l : List ℕ) (e : ℕ) (o : Option Line) → e < length l → ending o (rest l (e + 1)) ≡ none
-ending_more l e o h = ap (ending o) (rest_field l (e + 1) (e + 1 + length (before 44 (drop (e + 1) l))) (omega arith) refl)

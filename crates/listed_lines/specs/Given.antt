@@ -5,8 +5,6 @@ use denote.Ref.{Bor}
 use Rattle.std.specs.Fn.{Once, FnOnceReturns}
 use Rattle.std.proofs.Math.Option.{Option, none, some}
 use Rattle.ident.specs.Number.{Key}
-use Rattle.ident.specs.Words.{hash_bytes}
-use Rattle.words.specs.Words.{number, recs}
 use Rattle.regions.specs.Rows.{quad_number}
 use Rattle.machine.specs.State.{Candidate, Owner, Package, Request, State}
 use Rattle.machine.specs.Fields.{before, rest, same_text}
@@ -15,7 +13,7 @@ use Rattle.lines.specs.Values.{number_in, key_in}
 use Rattle.ident.specs.declared.Kind.{Kind}
 use Rattle.lines.specs.declared.read.Named.{Named}
 use Rattle.reading.specs.declared.fields.Parsed.{Parsed}
-use Rattle.reading.specs.Given.{At, parsed_in}
+use Rattle.reading.specs.Given.{At, parsed_in, hashes_of}
 use Rattle.listed_lines.specs.declared.parts.Owner as parts-owner
 use Rattle.listed_lines.specs.declared.parts.Package as parts-package
 use Rattle.listed_lines.specs.declared.line.Head as line-head
@@ -93,10 +91,6 @@ longest_list = 100
 
 abbrev pub list_room : ℕ
 list_room = 3200
-
--- the first n hashes of bytes
-abbrev pub hashes_of : ℕ → List ℕ → List ℕ
-hashes_of n b = recs hash_bytes (number 256) n b
 
 -- a list behind its length
 abbrev pub list_at : List ℕ → Maybe (Parsed ℕ) → Option (At (List ℕ))

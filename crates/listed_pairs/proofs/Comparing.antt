@@ -18,6 +18,7 @@ use Rattle.machine.specs.Claim.{same_kind}
 use Rattle.machine.specs.Sound.{Ordered}
 use Rattle.machine.specs.SoundTest.{every}
 use Rattle.machine.specs.Listing.{Rest}
+use Rattle.machine.proofs.Table.{weaken}
 use Rattle.listed_lines.specs.declared.line.Request as line-request
 use Rattle.listed_lines.specs.Given.{request_in}
 use Rattle.listed_form.specs.Given.{Body, requests_only}
@@ -27,7 +28,7 @@ use Rattle.listed_pairs.specs.declared.Pair.TheVariants.{Unfit, Done, Next}
 use Rattle.listed_requests.specs.Given.{NextRequest}
 use Rattle.listed_pairs.specs.Given.{FirstWtxid, Skips, PassesBelow, SideBySide, Facing, Left, Compared, PairsFit}
 use Rattle.listed_requests.proofs.Judging.{owner-there}
-use Rattle.listed_pairs.proofs.Facing.{weaken, from_first, first_few, others_few, no-txid, no-wtxid, front_first, back_first, both_first, same_wtxids}
+use Rattle.listed_pairs.proofs.Facing.{from_first, first_few, others_few, no-txid, no-wtxid, front_first, back_first, both_first, same_wtxids}
 use Rattle.listed_pairs.proofs.Seeking.{txid-kind, wtxid-kind}
 use Rattle.listed_pairs.proofs.Skipping.{few_in}
 

@@ -7,6 +7,7 @@ use native.Mathlib.Omega.{arith}
 use Rattle.ident.specs.declared.Kind.{Kind}
 use Rattle.ident.specs.declared.Kind.TheVariants.{Txid, Wtxid}
 use Rattle.ident.specs.Number.{base, top, Key, place, wtxid}
+use Rattle.ident.proofs.Places.{is-wtxid}
 use Rattle.machine.specs.State.{Request, Table, blank, is_some}
 use Rattle.machine.specs.Table.{at}
 use Rattle.machine.specs.Sound.{Ordered}
@@ -17,14 +18,6 @@ use Rattle.machine.proofs.Tests.{and_left, and_right}
 use Rattle.listed_requests.specs.Parts.{few_once, uncrowded, pair_fits, paired_in, paired, pairs_fit}
 
 -- ---- keys in order
-
-pub is-wtxid : (k : Kind) (h : ℕ) → h < top → top ≤ base k + h → k ≡ Wtxid
-is-wtxid Txid h s l = absurd (omega arith)
-is-wtxid Wtxid h s l = refl
-
-pub weaken : {lo hi : ℕ} (t : Table) → lo ≤ hi → Ordered hi t → Ordered lo t
-weaken [] h o = tt
-weaken (r ∷ t) h o = (omega (arith, o.0), o.1, o.2)
 
 -- the first is not below its own place
 pub from_first : {lo : ℕ} (r : Request) (t : Table) → Ordered lo (r ∷ t) → Ordered (place r.key) (r ∷ t)

@@ -1,9 +1,9 @@
 -- A line that is passed: where the next one begins, and what its first byte tells.
-use Prim.Native.Nat.{ℕ, ◌+◌, ◌-◌, ◌<◌, ◌≤◌}
+use Prim.Native.Nat.{ℕ, ◌+◌, ◌-◌, ◌<◌}
 use mathlib.Core.Path.{◌≡◌, refl, sym, ap, subst, ◌∙◌}
 use mathlib.Core.Bool.{Bool, true}
 use mathlib.Core.List.{List, [], ◌∷◌}
-use mathlib.Core.Option.{Option, none, some}
+use mathlib.Core.Option.{none, some}
 use mathlib.Core.Logic.{inl, inr}
 use native.Mathlib.Omega.{arith}
 use lib.Dec.{eqb}
@@ -11,11 +11,11 @@ use lib.ListN.{length, take, drop, length-drop}
 use borrow.Author.Tests.{eqb-true, eqb-false}
 use Rattle.ident.specs.declared.Kind.{Kind}
 use Rattle.ident.specs.declared.Kind.TheVariants.{Txid, Wtxid}
-use Rattle.machine.specs.State.{is_some, with_candidates}
+use Rattle.machine.specs.State.{is_some}
 use Rattle.machine.specs.Text.{kind_letter}
 use Rattle.machine.specs.Claim.{same_kind}
 use Rattle.machine.specs.Fields.{before, fields}
-use Rattle.machine.specs.Listing.{Line, HeadLine, RequestLine, CandidateLine, Rest, short, falls, key_field, request_fields, candidate_then, request_then, rest_of, line_of}
+use Rattle.machine.specs.Listing.{Line, HeadLine, RequestLine, CandidateLine, short, key_field, request_fields, line_of}
 use Rattle.machine.proofs.Tests.{test, never}
 use Rattle.machine.proofs.Parting.{take-before, before-length}
 use Rattle.machine.proofs.Forms.{short-fits}
@@ -23,15 +23,12 @@ use Rattle.machine.proofs.ListingLines.{line-text}
 use Rattle.lines.proofs.Splitting.{rest_field, rest_start}
 use Rattle.listed_lines.specs.Starts.{keyed}
 use Rattle.listed_lines.specs.Given.{lines_of_text}
-use Rattle.listed_lines.proofs.Starts.{keyed-no-candidate}
+use Rattle.listed_lines.proofs.Starts.{keyed-no-candidate, same_head}
 use Rattle.listed_lines.proofs.Ends.{no_end, line-ends}
-use Rattle.listed_form.proofs.Stepping.{parted, AfterCandidate, AfterRequest}
+use Rattle.listed_form.proofs.Stepping.{parted}
 use Rattle.listed_pairs.specs.Given.{starts_wtxid, Tells, LinePassed}
 
 -- ---- the letter
-
-same_head : {f g : List ℕ} {fs gs : List (List ℕ)} → f ∷ fs ≡ g ∷ gs → f ≡ g
-same_head e = cc
 
 letter-kind : (k : Kind) → eqb (kind_letter k) 119 ≡ same_kind k Wtxid
 letter-kind Txid = refl
@@ -112,38 +109,3 @@ some_passed b at h =
       | inl t ↦ record { end = e; passed = passed_none b at h {end = e} refl (eqb-true e (length b) t) }
       | inr t ↦ record { end = e + 1; passed = passed-is b at h {end = e} refl (eqb-false e (length b) t) }
     ]
-
--- ---- what it leaves
-
-abbrev pub Leaves : List ℕ → ℕ → Line → Rest → Type 0
-Leaves b end (HeadLine s) q = ⊥
-Leaves b end (RequestLine r) q = AfterRequest b end r q
-Leaves b end (CandidateLine c) q = AfterCandidate b end c q
-
-pub leaves : (b : List ℕ) (end : ℕ) {ls : List Line} → end ≤ length b → lines_of_text (drop end b) ≡ some ls → (l : Line) {q : Rest} → rest_of (l ∷ ls) ≡ some q → Leaves b end l q
-unfolding rest_of
-leaves b end i a (HeadLine s) e = never (ap is_some e)
-leaves b end {ls} i a (RequestLine r) {q} e = go (rest_of ls) refl e
-  where
-    go : (o : Option Rest) → rest_of ls ≡ o → request_then r o ≡ some q → AfterRequest b end r q
-    go none g d = never (ap is_some d)
-    go (some z) g d = elim (test (falls r.key z.table)) [
-      | inl t ↦ never (ap is_some (rw t at d))
-      | inr t ↦
-          let w : record { candidates = []; table = with_candidates z.candidates r ∷ z.table } ≡ q = same (rw t at d) in
-          rw (← w)
-          (record { candidates = z.candidates; table = z.table; first = refl; parts = refl; rises = t; body = record { inside = i; lines = ls; are = a; list = g } })
-    ]
-      where
-        same : {m n : Rest} → some m ≡ some n → m ≡ n
-        same e = cc
-leaves b end {ls} i a (CandidateLine c) {q} e = go (rest_of ls) refl e
-  where
-    go : (o : Option Rest) → rest_of ls ≡ o → candidate_then c o ≡ some q → AfterCandidate b end c q
-    go none g d = never (ap is_some d)
-    go (some z) g d =
-        let w : record { candidates = c ∷ z.candidates; table = z.table } ≡ q = same d in
-        rw (← w) (record { candidates = z.candidates; parts = refl; body = record { inside = i; lines = ls; are = a; list = g } })
-      where
-        same : {m n : Rest} → some m ≡ some n → m ≡ n
-        same e = cc

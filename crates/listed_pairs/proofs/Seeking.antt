@@ -17,12 +17,12 @@ use Rattle.machine.specs.SoundTest.{every}
 use Rattle.machine.specs.Listing.{Line, HeadLine, RequestLine, CandidateLine, Rest, rest_of}
 use Rattle.machine.proofs.At.{at_there}
 use Rattle.machine.proofs.Tests.{never}
+use Rattle.machine.proofs.Table.{weaken}
 use Rattle.listed_form.specs.Given.{Body, requests_only}
-use Rattle.listed_form.proofs.Stepping.{body_end}
+use Rattle.listed_form.proofs.Stepping.{body_end, Leaves, leaves}
 use Rattle.listed_requests.specs.Parts.{uncrowded}
 use Rattle.listed_pairs.specs.Given.{starts_wtxid, Tells, LinePassed, Behind, FirstWtxid}
-use Rattle.listed_pairs.proofs.Facing.{weaken, others_few}
-use Rattle.listed_pairs.proofs.Passing.{Leaves, leaves}
+use Rattle.listed_pairs.proofs.Facing.{others_few}
 
 -- ---- underway
 

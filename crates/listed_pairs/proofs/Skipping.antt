@@ -13,13 +13,14 @@ use Rattle.machine.specs.Limits.{max_alternates}
 use Rattle.machine.specs.State.{Request, Table, with_candidates}
 use Rattle.machine.specs.Claim.{same_kind}
 use Rattle.machine.specs.SoundTest.{every}
+use Rattle.machine.proofs.Table.{weaken}
 use Rattle.listed_lines.specs.declared.line.Request as line-request
 use Rattle.listed_lines.specs.Given.{request_in}
 use Rattle.listed_requests.specs.Parts.{uncrowded, pairs_fit}
 use Rattle.listed_requests.specs.Given.{TakesRequest}
 use Rattle.listed_requests.proofs.Crowds.{test_few}
 use Rattle.listed_pairs.specs.Given.{Skips, Below}
-use Rattle.listed_pairs.proofs.Facing.{weaken, first_few, others_few, front_first}
+use Rattle.listed_pairs.proofs.Facing.{first_few, others_few, front_first}
 use Rattle.listed_pairs.proofs.Seeking.{txid-kind}
 
 pub few_in : (q : Request) (t : Table) → every (uncrowded max_alternates) (q ∷ t) ≡ true → length q.candidates ≤ max_alternates

@@ -8,11 +8,11 @@ use lib.Dec.{leb}
 use borrow.Author.Tests.{lt-ltb, leb-true}
 use Rattle.ident.specs.Number.{top, Key}
 use Rattle.machine.specs.Limits.{Limits, max_alternates, word}
-use Rattle.machine.specs.State.{Table, State, limits_of}
+use Rattle.machine.specs.State.{Table, State, limits_of, KeyTyped}
 use Rattle.machine.specs.Table.{held, places_held}
 use Rattle.machine.specs.Sound.{Ordered}
 use Rattle.machine.specs.SoundTest.{poll_fits, cursor_fits, sizes_fit, is_sound, is_ordered, every, is_filled, is_lawful}
-use Rattle.machine.specs.Listing.{Whenever, KeyListed, Listed}
+use Rattle.machine.specs.Listing.{Whenever, StateListed}
 use Rattle.machine.proofs.Tests.{and_left, and_right}
 use Rattle.machine.proofs.Listings.{read_listed}
 use Rattle.machine.proofs.SoundTest.{test-ordered}
@@ -30,7 +30,7 @@ poll-fits : (p : Option ℕ) → Whenever (λ n. n < word) p → poll_fits p ≡
 poll-fits none l = refl
 poll-fits (some n) l = lt-ltb n word l
 
-cursor-fits : (k : Option Key) → Whenever KeyListed k → cursor_fits k ≡ true
+cursor-fits : (k : Option Key) → Whenever KeyTyped k → cursor_fits k ≡ true
 cursor-fits none l = refl
 cursor-fits (some k) l = lt-ltb k.hash top l
 
@@ -43,7 +43,7 @@ and-false true = refl
 and-false false = refl
 
 -- the first line of a listing has no number that is out of its range but L and Q
-head_is : (s : State) → Listed s → head_fits s ≡ sizes_fit s
+head_is : (s : State) → StateListed s → head_fits s ≡ sizes_fit s
 head_is s l =
     ap (λ (x : Bool). sizes_fit s && (x && (cursor_fits s.known_cursor && cursor_fits s.ready_cursor))) (poll-fits s.next_poll l.head.poll)
     ∙ ap (λ (x : Bool). sizes_fit s && (x && cursor_fits s.ready_cursor)) (cursor-fits s.known_cursor l.head.known)
@@ -82,7 +82,7 @@ module _ {b : List ℕ} {h : line-head.Head} {e : ℕ} (v : Reads b h e) where
   abbrev state : State
   state = v.state
 
-  listed : Listed state
+  listed : StateListed state
   listed = read_listed b state v.read
 
   sizes-are : sizes_fit state ≡ sizes_fit (head_state h)

@@ -21,6 +21,7 @@ use Rattle.machine.proofs.At.{at_here, at_there}
 use Rattle.machine.proofs.Table.{at_absent}
 use Rattle.machine.proofs.Tests.{test, never, or_left, or_right}
 use Rattle.machine.proofs.SoundTest.{Test, test_and, test_iff}
+use Rattle.machine.proofs.Unowned.{no-weight}
 use Rattle.heavy.specs.Streams.{connections_of}
 use Rattle.listed_requests.specs.Parts.{few_once}
 
@@ -83,11 +84,11 @@ once_passes (c ∷ cs) f =
     let a = absent (elem x (connections_of cs)) (λ d. omega (arith, f x, some_of x cs d, ap one (eq-eqb x x refl))) in
     rw (a, once_passes cs (λ n. omega (arith, f n)))
 
-pub record Few (most : ℕ) (cs : List Candidate) : Type 0 where
+pub record FewOnce (most : ℕ) (cs : List Candidate) : Type 0 where
   pub few : length cs ≤ most
   pub once : Once cs
 
-pub test_few : (most : ℕ) (cs : List Candidate) → Test (few_once most cs) (Few most cs)
+pub test_few : (most : ℕ) (cs : List Candidate) → Test (few_once most cs) (FewOnce most cs)
 unfolding few_once
 test_few most cs =
     test_iff (test_and (leb (length cs) most) (no_repeat (connections_of cs)) (record { holds = leb-true (length cs) most; passes = le-leb (length cs) most })
@@ -99,10 +100,10 @@ unfolding count_in
 count-append p [] ds = omega arith
 count-append p (c ∷ cs) ds = omega (arith, count-append p cs ds)
 
-pub few_front : {most : ℕ} (cs ds : List Candidate) → Few most (cs ++ ds) → Few most cs
+pub few_front : {most : ℕ} (cs ds : List Candidate) → FewOnce most (cs ++ ds) → FewOnce most cs
 few_front cs ds f = record { few = omega (arith, length-append cs ds, f.few); once = λ n. omega (arith, count-append (is n) cs ds, f.once n) }
 
-pub few_back : {most : ℕ} (cs ds : List Candidate) → Few most (cs ++ ds) → Few most ds
+pub few_back : {most : ℕ} (cs ds : List Candidate) → FewOnce most (cs ++ ds) → FewOnce most ds
 few_back cs ds f = record { few = omega (arith, length-append cs ds, f.few); once = λ n. omega (arith, count-append (is n) cs ds, f.once n) }
 
 -- ---- a weight at one hash is that of its two keys
@@ -179,10 +180,6 @@ owner-in : (b : Bool) (o : Option Owner) → b ≡ true → owner_in (λ m. b) o
 owner-in b none e = refl
 owner-in b (some o) e = ap one e
 
-none_owner : (b : Bool) (o : Option Owner) → b ≡ false → owner_in (λ m. b) o ≡ 0
-none_owner b none e = refl
-none_owner b (some o) e = ap one e
-
 empty-count : (p : ℕ → Bool) → count_in p [] ≡ 0
 unfolding count_in
 empty-count p = refl
@@ -202,4 +199,4 @@ module _ (h : ℕ) (small : h < top) (t : Table) (o : Ordered 0 t) where
   pub owned_two : owned_at h t ≡ one (is_some (at (txid h) t).owner) + one (is_some (at (wtxid h) t).owner)
   owned_two =
       two_keys h small (λ r. owner_in (under h r.key) r.owner) (λ r. one (is_some r.owner)) (λ r e. owner-in (eqb r.key.hash h) r.owner (eq-eqb r.key.hash h e))
-      (λ r n. none_owner (eqb r.key.hash h) r.owner (ne_eqb r.key.hash h n)) (λ k. refl) 0 t o
+      (λ r n. no-weight (eqb r.key.hash h) r.owner (ne_eqb r.key.hash h n)) (λ k. refl) 0 t o

@@ -17,22 +17,24 @@ use Rattle.ident.specs.Words.{hash_bytes}
 use Rattle.words.specs.Words.{number}
 use Rattle.words.proofs.Records.{length-recs}
 use Rattle.machine.specs.Limits.{max_alternates, max_wtxids, max_parents, word}
-use Rattle.machine.specs.State.{Candidate, Owner, Package, Request, with_candidates, is_some}
+use Rattle.machine.specs.State.{Candidate, Owner, Package, Request, with_candidates, is_some, Each}
 use Rattle.machine.specs.Table.{has}
 use Rattle.machine.specs.Claim.{elem, same_kind}
-use Rattle.machine.specs.Listing.{Rest, Every, Whenever, HashesListed, OwnerListed, PackageListed, RequestListed}
-use Rattle.machine.specs.SoundTest.{hashes_fit, no_repeat, all_fit, owner_fits, package_fits, parents_fit, is_empty, is_packed, mark_fits, is_lawful}
+use Rattle.machine.specs.Listing.{Rest, Whenever, HashesListed, OwnerListed, PackageListed, RequestListed}
+use Rattle.machine.specs.SoundTest.{hashes_fit, no_repeat, all_fit, owner_fits, package_fits, parents_fit, is_packed, mark_fits, is_lawful}
 use Rattle.std.specs.Bool.{then_some}
 use Rattle.machine.proofs.Tests.{test, never}
 use Rattle.heavy.specs.Streams.{connections_of}
 use Rattle.listed_lines.specs.declared.line.Request as line-request
 use Rattle.listed_lines.specs.declared.parts.Owner as parts-owner
 use Rattle.listed_lines.specs.declared.parts.Package as parts-package
-use Rattle.listed_lines.specs.Given.{hashes_of, owner_of, package_of, request_in}
+use Rattle.listed_lines.specs.Given.{owner_of, package_of, request_in}
 use Rattle.listed_form.specs.Given.{key_in, Body}
 use Rattle.listed_requests.specs.Parts.{few_once, line_fits, one_fits}
 use Rattle.listed_requests.specs.declared.candidates.Gathered.{Gathered}
 use Rattle.listed_requests.specs.Given.{Gathers, packs, owner_among, LineFits, Judged}
+use Rattle.reading.specs.Given.{hashes_of}
+use Rattle.machine.specs.Leave.{is_empty}
 
 and-true : (x : Bool) → (x && true) ≡ x
 and-true true = refl
@@ -44,7 +46,7 @@ and-false false = refl
 
 -- ---- what a listing's numbers are
 
-all_below : (hs : List ℕ) → Every (λ h. h < top) hs → hashes_fit hs ≡ true
+all_below : (hs : List ℕ) → Each (λ h. h < top) hs → hashes_fit hs ≡ true
 unfolding hashes_fit
 all_below [] e = refl
 all_below (h ∷ hs) e = rw (lt-ltb h top e.0, all_below hs e.1)

@@ -1,7 +1,7 @@
 -- The line that comes next, as a candidate's or as a request's.
 use Prim.Native.Nat.{ℕ, ◌+◌, ◌-◌, ◌<◌, ◌≤◌}
 use mathlib.Core.Path.{◌≡◌, refl, sym, ap, ◌∙◌}
-use mathlib.Core.Bool.{Bool, true, false}
+use mathlib.Core.Bool.{true}
 use mathlib.Core.List.{List, [], ◌∷◌}
 use mathlib.Core.Logic.{inl, inr}
 use mathlib.Core.Option.{Option, none, some}
@@ -9,10 +9,11 @@ use native.Mathlib.Omega.{arith}
 use lib.Dec.{eqb, ltb}
 use lib.ListN.{length, take, drop, length-drop, drop_of_length-le}
 use borrow.Author.Tests.{eqb-true, eqb-false, ltb-true, ltb-false}
-use Rattle.std.specs.Prelude.{Some, None, if◌then◌else◌}
-use Rattle.machine.specs.State.{Request, Table, with_candidates, is_some}
+use Rattle.std.specs.Prelude.{Some, None}
+use Rattle.machine.specs.State.{Request, Table, is_some}
 use Rattle.machine.specs.Fields.{before, fields}
-use Rattle.machine.specs.Listing.{Line, HeadLine, RequestLine, CandidateLine, short, Rest, falls, request_then, rest_of, line_of, one_more}
+use Rattle.machine.specs.Listing.{Line, HeadLine, RequestLine, CandidateLine, short, Rest, rest_of, line_of, one_more}
+use Rattle.machine.proofs.FrontLines.{request_first}
 use Rattle.machine.proofs.Tests.{test, never}
 use Rattle.machine.proofs.Parting.{take-before, before-skip, before-length}
 use Rattle.listed_lines.specs.declared.line.Line as line-line
@@ -77,17 +78,6 @@ keyed_front (c ∷ b) e =
     let n : c ≡ 10 → ⊥ = λ z. never (rw z at e) in
     ap keyed (before-skip 10 c b n) ∙ e
 
-no_candidates : (r : Request) (o : Option Rest) {q : Rest} → request_then r o ≡ some q → q.candidates ≡ []
-no_candidates r none e = never (ap is_some e)
-no_candidates r (some z) {q} e = by (falls r.key z.table) e
-  where
-    same : {m n : Rest} → some m ≡ some n → m ≡ n
-    same e = cc
-
-    by : (t : Bool) → (if t then none else some (record { candidates = []; table = with_candidates z.candidates r ∷ z.table })) ≡ some q → q.candidates ≡ []
-    by true d = never (ap is_some d)
-    by false d = sym (ap (λ (x : Rest). x.candidates) (same d))
-
 module _ {b : List ℕ} {at : ℕ} {q : Rest} (y : Body b at q) (h : at < length b) (k : keyed (drop at b) ≡ true) where
   keyed_line_left : (l : List ℕ) → l ≡ before 10 (drop at b) → (o : Option (List Line)) → one_more (line_of short (fields l)) o ≡ some y.lines → q.candidates ≡ []
   unfolding rest_of
@@ -97,7 +87,7 @@ module _ {b : List ℕ} {at : ℕ} {q : Rest} (y : Body b at q) (h : at < length
     where
       by : (x : Line) (ls : List Line) → line_of short (fields l) ≡ some x → rest_of (x ∷ ls) ≡ some q → q.candidates ≡ []
       by (HeadLine s) ls i r = never (ap is_some r)
-      by (RequestLine z) ls i r = no_candidates z (rest_of ls) r
+      by (RequestLine z) ls i r = sym (ap (λ (x : Rest). x.candidates) (request_first z ls r).parts)
       by (CandidateLine c) ls i r = absurd (keyed-no-candidate l (ap keyed g ∙ keyed_front (drop at b) k) c i)
 
   keyed_left : q.candidates ≡ []

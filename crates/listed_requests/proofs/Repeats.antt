@@ -19,7 +19,7 @@ use Rattle.machine.specs.SoundTest.{no_repeat}
 use Rattle.machine.proofs.Tests.{test}
 use Rattle.lent_lists.specs.Lists.{hashes_in}
 use Rattle.lent_lists.proofs.Given.{length-hashes}
-use Rattle.listed_lines.specs.Given.{hashes_of}
+use Rattle.reading.specs.Given.{hashes_of}
 
 -- as a slice's `contains` tells it
 pub any_elem : (x : ℕ) (l : List ℕ) → list_any (λ y. eqb y x) l ≡ elem x l

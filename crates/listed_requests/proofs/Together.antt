@@ -21,7 +21,7 @@ use Rattle.machine.proofs.Table.{at_key, all_at}
 use Rattle.machine.proofs.Tests.{test, never, and_left, and_right}
 use Rattle.machine.proofs.SoundTest.{Test, test_and, test_iff, test-ordered, test-every, test-bounded, every_one_lem}
 use Rattle.listed_requests.specs.Parts.{head_fits, few_once, uncrowded, local_fits, pair_fits, paired_in, paired, pairs_fit, count_fits, counts_fit, together_fit}
-use Rattle.listed_requests.proofs.Crowds.{is, Few, test_few, count-append, few_front, few_back, held_two, once_two, owned_two}
+use Rattle.listed_requests.proofs.Crowds.{is, FewOnce, test_few, count-append, few_front, few_back, held_two, once_two, owned_two}
 
 -- ---- every request, with what stands at its key
 
@@ -47,7 +47,7 @@ every_true (r ∷ t) = every_true t
 -- ---- the requests of a hash
 
 pub record Two (most : ℕ) (p q : Request) : Type 0 where
-  pub few : Few most (p.candidates ++ q.candidates)
+  pub few : FewOnce most (p.candidates ++ q.candidates)
   pub single : one (is_some p.owner) + one (is_some q.owner) ≤ 1
 
 test-single : (a b : Bool) → Test (not (a && b)) (one a + one b ≤ 1)

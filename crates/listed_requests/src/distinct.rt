@@ -3,7 +3,7 @@ ghost use Rattle.std.specs.Prelude.{◌≡◌, ◌*◌, ◌≤◌, length, take}
 ghost use Rattle.ident.specs.Words.{hash_bytes};
 ghost use Rattle.machine.specs.Claim.{elem};
 ghost use Rattle.machine.specs.SoundTest.{no_repeat};
-ghost use Rattle.listed_lines.specs.Given.{hashes_of};
+ghost use Rattle.reading.specs.Given.{hashes_of};
 
 // (A function: by its clause `contains` is the definition's `elem`.)
 pub fn stands(list: &[u64], x: u64) -> bool

@@ -20,8 +20,9 @@ use Rattle.ident.specs.Number.{top, Key, Item, is_plain}
 use Rattle.machine.specs.Limits.{word}
 use Rattle.machine.specs.Text.{digit_text, numeral, decimal_digits, decimal, bool_text, kind_letter, item_kind_text}
 use Rattle.machine.specs.Fields.{digit_of, numeral_of, number_of, type_of, kind_of, key_with, before, behind, item_with, letter_kind, other_kind, same_text, taking, elements_then}
-use Rattle.machine.specs.Listing.{HashForm, short, Digital, FormFits, key_field, key_in, item_field, other_in, item_in, none_text, maybe_field, hash_fields, list_fields, list_then, Every}
-use Rattle.machine.specs.Listing.{KeyListed, HashesListed, ItemListed}
+use Rattle.machine.specs.State.{Each, KeyTyped}
+use Rattle.machine.specs.Listing.{HashForm, short, Digital, FormFits, key_field, key_in, item_field, other_in, item_in, none_text, maybe_field, hash_fields, list_fields, list_then}
+use Rattle.machine.specs.Listing.{HashesListed, ItemListed}
 use Rattle.machine.proofs.Tests.{test, and_left, and_right}
 use Rattle.machine.proofs.DigitBytes.{digit-text, digit_below}
 use Rattle.machine.proofs.Numerals.{numeral_none, numeral_one, numeral_more, numeral_of-empty}
@@ -131,7 +132,7 @@ module _ (x : HashForm) (fit : FormFits x) where
       go Txid n h = rw (fit.back n h)
       go Wtxid n h = rw (fit.back n h)
 
-  pub key-text : (f : List ℕ) (k : Key) → key_in x f ≡ some k → (f ≡ key_field x k) × KeyListed k
+  pub key-text : (f : List ℕ) (k : Key) → key_in x f ≡ some k → (f ≡ key_field x k) × KeyTyped k
   unfolding key_in key_field
   key-text [] k e = absurd (never_some e)
   key-text (c ∷ f) k e =
@@ -249,7 +250,7 @@ module _ (x : HashForm) (fit : FormFits x) where
     pub values : List ℕ
     pub rest : List (List ℕ)
     pub long : length values ≡ n
-    pub hashes : Every (λ h. h < top) values
+    pub hashes : Each (λ h. h < top) values
     pub parts : fs ≡ hash_fields x values ++ rest
     pub goes : k (l ++ values) rest ≡ some b
 
@@ -268,7 +269,7 @@ module _ (x : HashForm) (fit : FormFits x) where
         goes = rw append_assoc at m.goes;
       }
 
-  many_back : {B : Type 0} (hs l : List ℕ) → Every (λ h. h < top) hs → (k : List ℕ → List (List ℕ) → Option B) (fs : List (List ℕ))
+  many_back : {B : Type 0} (hs l : List ℕ) → Each (λ h. h < top) hs → (k : List ℕ → List (List ℕ) → Option B) (fs : List (List ℕ))
       → elements_then (taking x.of) (length hs) l k (hash_fields x hs ++ fs) ≡ k (l ++ hs) fs
   unfolding elements_then hash_fields
   many_back [] l g k fs = rw append-nil

@@ -47,6 +47,7 @@ pub mod Readers
 pub mod Commas
 pub mod Forms
 pub mod ListingLines
+pub mod FrontLines
 pub mod Listings
 pub mod SoundTest
 pub mod Restoring

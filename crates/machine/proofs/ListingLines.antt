@@ -11,12 +11,12 @@ use lib.ListN.{length}
 use borrow.Author.Tests.{ne_eqb}
 use Rattle.ident.specs.Number.{top, Key, Item}
 use Rattle.machine.specs.Limits.{word, max_wtxids, max_parents}
-use Rattle.machine.specs.State.{Candidate, Owner, Package, Request, State, on_table, with_candidates}
+use Rattle.machine.specs.State.{Candidate, Owner, Package, Request, State, on_table, with_candidates, KeyTyped}
 use Rattle.machine.specs.Text.{decimal, bool_text, joined}
 use Rattle.machine.specs.Fields.{digit_of, number_of, bool_of, same_text, fields, taking}
 use Rattle.machine.specs.Listing.{HashForm, Digital, FormFits, key_field, key_in, item_field, item_in, none_text, maybe_field, maybe_in, maybe_fields, hash_fields, list_fields, Line, HeadLine}
 use Rattle.machine.specs.Listing.{RequestLine, CandidateLine, places_field, head_fields, head_of, owner_fields, owner_then, package_fields, package_then, request_fields, request_with}
-use Rattle.machine.specs.Listing.{request_of, candidate_fields, candidate_of, line_fields, first_of, line_of, Whenever, KeyListed, OwnerListed, PackageListed, ItemListed, CandidateListed}
+use Rattle.machine.specs.Listing.{request_of, candidate_fields, candidate_of, line_fields, first_of, line_of, Whenever, OwnerListed, PackageListed, ItemListed, CandidateListed}
 use Rattle.machine.specs.Listing.{RequestListed, HeadListed}
 use Rattle.machine.proofs.RoundTrips.{number_back, number-text, bool_back, bool-text}
 use Rattle.machine.proofs.Readers.{Found, Finds, Gives, single, finds_one, gives_one, taking_not, ended, maybe_back, maybe_text, finds_none_or, gives_none_or, Begins}
@@ -113,11 +113,11 @@ module _ (x : HashForm) (fit : FormFits x) where
     other = digits_not_none (x.text p.combined) (fit.clean p.combined);
   }
 
-  maybe_key_found : {B : Type 0} → Finds {B = B} (taking (maybe_in (key_in x))) (single (maybe_field (key_field x))) (Whenever KeyListed)
-  maybe_key_found = finds_one (maybe_in (key_in x)) (maybe_field (key_field x)) (Whenever KeyListed) (maybe_text (key_in x) (key_field x) KeyListed (key-text x fit))
+  maybe_key_found : {B : Type 0} → Finds {B = B} (taking (maybe_in (key_in x))) (single (maybe_field (key_field x))) (Whenever KeyTyped)
+  maybe_key_found = finds_one (maybe_in (key_in x)) (maybe_field (key_field x)) (Whenever KeyTyped) (maybe_text (key_in x) (key_field x) KeyTyped (key-text x fit))
 
-  maybe_key_given : {B : Type 0} → Gives {B = B} (taking (maybe_in (key_in x))) (single (maybe_field (key_field x))) (Whenever KeyListed)
-  maybe_key_given = gives_one (maybe_in (key_in x)) (maybe_field (key_field x)) (Whenever KeyListed) (maybe_back (key_in x) (key_field x) KeyListed (key_back x fit) (key_not_none x fit))
+  maybe_key_given : {B : Type 0} → Gives {B = B} (taking (maybe_in (key_in x))) (single (maybe_field (key_field x))) (Whenever KeyTyped)
+  maybe_key_given = gives_one (maybe_in (key_in x)) (maybe_field (key_field x)) (Whenever KeyTyped) (maybe_back (key_in x) (key_field x) KeyTyped (key_back x fit) (key_not_none x fit))
 
   maybe_number_found : {B : Type 0} → Finds {B = B} (taking (maybe_in number_of)) (single (maybe_field (λ n. decimal n))) (Whenever (λ n. n < word))
   maybe_number_found = finds_one (maybe_in number_of) (maybe_field (λ n. decimal n)) (Whenever (λ n. n < word)) (maybe_text number_of (λ n. decimal n) (λ n. n < word) number-text)
@@ -172,11 +172,11 @@ module _ (x : HashForm) (fit : FormFits x) where
 
   -- ---- a request's line
 
-  key-found : {B : Type 0} → Finds {B = B} (taking (key_in x)) (single (key_field x)) KeyListed
-  key-found = finds_one (key_in x) (key_field x) KeyListed (key-text x fit)
+  key-found : {B : Type 0} → Finds {B = B} (taking (key_in x)) (single (key_field x)) KeyTyped
+  key-found = finds_one (key_in x) (key_field x) KeyTyped (key-text x fit)
 
-  key-given : {B : Type 0} → Gives {B = B} (taking (key_in x)) (single (key_field x)) KeyListed
-  key-given = gives_one (key_in x) (key_field x) KeyListed (key_back x fit)
+  key-given : {B : Type 0} → Gives {B = B} (taking (key_in x)) (single (key_field x)) KeyTyped
+  key-given = gives_one (key_in x) (key_field x) KeyTyped (key_back x fit)
 
   request-text : (fs : List (List ℕ)) (l : Line) → request_of x fs ≡ some l → Lined fs l
   unfolding request_of request_fields

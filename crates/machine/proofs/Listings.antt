@@ -13,18 +13,19 @@ use Rattle.ident.specs.declared.ItemKind.TheVariants.{Transaction, WitnessTransa
 use Rattle.ident.specs.declared.Kind.{Kind}
 use Rattle.ident.specs.Number.{top, Key, place, key_as, kind_of}
 use Rattle.machine.specs.Limits.{word}
-use Rattle.machine.specs.State.{Candidate, Owner, Package, Request, Table, State, on_table, with_candidates}
+use Rattle.machine.specs.State.{Candidate, Owner, Package, Request, Table, State, on_table, with_candidates, Each, KeyTyped}
 use Rattle.machine.specs.Table.{has}
 use Rattle.machine.specs.Sound.{Hashes, CursorFits, PollFits, AllFit, OwnerFits, Packed, Lawful, Ordered, All, Sound}
 use Rattle.machine.specs.Text.{joined}
 use Rattle.machine.specs.Fields.{fields}
 use Rattle.machine.specs.Listing.{HashForm, short, FormFits, Line, HeadLine, RequestLine, CandidateLine, head_fields, request_fields, candidate_fields, line_fields, line_of, lines_of}
-use Rattle.machine.specs.Listing.{text_of, listing_in, listing, text_lines, one_more, lines_in, lines_from, Rest, falls, candidate_then, request_then, rest_of, tabled, tabled_from, state_of}
-use Rattle.machine.specs.Listing.{read_in, read_listing, Whenever, Every, KeyListed, OwnerListed, PackageListed, ItemListed, CandidateListed, RequestListed, NotBelow, TableListed}
-use Rattle.machine.specs.Listing.{HeadListed, Listed}
+use Rattle.machine.specs.Listing.{text_of, listing_in, listing, text_lines, one_more, lines_in, lines_from, Rest, falls, request_then, rest_of, tabled, tabled_from, state_of}
+use Rattle.machine.specs.Listing.{read_in, read_listing, Whenever, OwnerListed, PackageListed, ItemListed, CandidateListed, RequestListed, NotBelow, TableListed}
+use Rattle.machine.specs.Listing.{HeadListed, StateListed}
 use Rattle.machine.proofs.Tests.{test, never}
 use Rattle.machine.proofs.RoundTrips.{never_some}
 use Rattle.machine.proofs.Forms.{short-fits}
+use Rattle.machine.proofs.FrontLines.{request_first, candidate_first}
 use Rattle.machine.proofs.Commas.{joined-fields, line_read, unbroken_joined, ended_lines, lines-text}
 use Rattle.machine.proofs.ListingLines.{LineGood, line_back, line-text, line_above, line-fields}
 
@@ -97,62 +98,38 @@ module _ (x : HashForm) (fit : FormFits x) where
   unfolding rest_of lines_of text_of request_fields
   rest_text [] q e = let g : record { candidates = []; table = [] } ≡ q = cc in rw (← g)
   rest_text (HeadLine s ∷ ls) q e = absurd (never_some e)
-  rest_text (RequestLine r ∷ ls) q e = go (rest_of ls) (rest_text ls) e
-    where
-      go : (o : Option Rest) → ((p : Rest) → o ≡ some p → text_of x (map CandidateLine p.candidates ++ lines_of p.table) ≡ text_of x ls) → request_then r o ≡ some q
-          → text_of x (map CandidateLine q.candidates ++ lines_of q.table) ≡ text_of x (RequestLine r ∷ ls)
-      go none h d = absurd (never_some d)
-      go (some p) h d = elim (test (falls r.key p.table)) [
-        | inl t ↦ absurd (never_some (rw t at d))
-        | inr t ↦
-            let g : record { candidates = []; table = with_candidates p.candidates r ∷ p.table } ≡ q = cc (rw t at d) in
-            rw (← g) (ap (λ (u : List ℕ). joined (request_fields x r) ++ (10 ∷ u)) (h p refl))
-      ]
-  rest_text (CandidateLine c ∷ ls) q e = go (rest_of ls) (rest_text ls) e
-    where
-      go : (o : Option Rest) → ((p : Rest) → o ≡ some p → text_of x (map CandidateLine p.candidates ++ lines_of p.table) ≡ text_of x ls) → candidate_then c o ≡ some q
-          → text_of x (map CandidateLine q.candidates ++ lines_of q.table) ≡ text_of x (CandidateLine c ∷ ls)
-      go none h d = absurd (never_some d)
-      go (some p) h d =
-          let g : record { candidates = c ∷ p.candidates; table = p.table } ≡ q = cc in
-          rw (← g) (ap (λ (u : List ℕ). joined (candidate_fields x c) ++ (10 ∷ u)) (h p refl))
+  rest_text (RequestLine r ∷ ls) q e =
+      let w = request_first r ls e in
+      rw (← w.parts) (ap (λ (u : List ℕ). joined (request_fields x r) ++ (10 ∷ u)) (rest_text ls w.rest w.list))
+  rest_text (CandidateLine c ∷ ls) q e =
+      let w = candidate_first c ls e in
+      rw (← w.parts) (ap (λ (u : List ℕ). joined (candidate_fields x c) ++ (10 ∷ u)) (rest_text ls w.rest w.list))
 
   -- and can be written
   record RestListed (q : Rest) : Type 0 where
-    candidates : Every CandidateListed q.candidates
+    candidates : Each CandidateListed q.candidates
     table : TableListed q.table
 
   rest_listed : (ls : List Line) (q : Rest) → LinesGood ls → rest_of ls ≡ some q → RestListed q
   unfolding rest_of
   rest_listed [] q g e = let d : record { candidates = []; table = [] } ≡ q = cc in rw (← d) (record { candidates = tt; table = tt })
   rest_listed (HeadLine s ∷ ls) q g e = absurd (never_some e)
-  rest_listed (RequestLine r ∷ ls) q g e = go (rest_of ls) (λ p. rest_listed ls p g.1) e
-    where
-      go : (o : Option Rest) → ((p : Rest) → o ≡ some p → RestListed p) → request_then r o ≡ some q → RestListed q
-      go none h d = absurd (never_some d)
-      go (some p) h d = elim (test (falls r.key p.table)) [
-        | inl t ↦ absurd (never_some (rw t at d))
-        | inr t ↦
-            let w : record { candidates = []; table = with_candidates p.candidates r ∷ p.table } ≡ q = cc (rw t at d) in
-            let i = h p refl in
-            let v = g.0.0 in
-            rw (← w) (record {
-              candidates = tt;
-              table = (not_below r.key p.table t, record { key = v.key; owner = v.owner; packed = v.packed; parents = v.parents }, i.candidates, i.table);
-            })
-      ]
-  rest_listed (CandidateLine c ∷ ls) q g e = go (rest_of ls) (λ p. rest_listed ls p g.1) e
-    where
-      go : (o : Option Rest) → ((p : Rest) → o ≡ some p → RestListed p) → candidate_then c o ≡ some q → RestListed q
-      go none h d = absurd (never_some d)
-      go (some p) h d =
-          let w : record { candidates = c ∷ p.candidates; table = p.table } ≡ q = cc in
-          let i = h p refl in
-          rw (← w) (record { candidates = (g.0, i.candidates); table = i.table })
+  rest_listed (RequestLine r ∷ ls) q g e =
+      let w = request_first r ls e in
+      let i = rest_listed ls w.rest g.1 w.list in
+      let v = g.0.0 in
+      rw (← w.parts) (record {
+        candidates = tt;
+        table = (not_below r.key w.rest.table w.rises, record { key = v.key; owner = v.owner; packed = v.packed; parents = v.parents }, i.candidates, i.table);
+      })
+  rest_listed (CandidateLine c ∷ ls) q g e =
+      let w = candidate_first c ls e in
+      let i = rest_listed ls w.rest g.1 w.list in
+      rw (← w.parts) (record { candidates = (g.0, i.candidates); table = i.table })
 
   -- ---- the lines of a state that can be written
 
-  candidates-good : (cs : List Candidate) (ls : List Line) → Every CandidateListed cs → LinesGood ls → LinesGood (map CandidateLine cs ++ ls)
+  candidates-good : (cs : List Candidate) (ls : List Line) → Each CandidateListed cs → LinesGood ls → LinesGood (map CandidateLine cs ++ ls)
   candidates-good [] ls a g = g
   candidates-good (c ∷ cs) ls a g = (a.0, candidates-good cs ls a.1 g)
 
@@ -169,44 +146,44 @@ module _ (x : HashForm) (fit : FormFits x) where
   -- ---- the laws, of any form of hashes that fits
 
   -- a state that can be written is read back
-  pub form_read : (s : State) → Listed s → read_in x (listing_in x s) ≡ some s
+  pub form_read : (s : State) → StateListed s → read_in x (listing_in x s) ≡ some s
   unfolding read_in listing_in
   form_read s v =
       let ls = HeadLine (on_table [] s) ∷ lines_of s.table in
       rw (text-lines ls, lines_back ls ((with_table [] s v.head, refl), table-good s.table v.table), table_back s.table v.table)
 
   -- a text that is read is the listing of its state, which can be written
-  pub form-listing : (b : List ℕ) (s : State) → read_in x b ≡ some s → (listing_in x s ≡ b) × Listed s
+  pub form-listing : (b : List ℕ) (s : State) → read_in x b ≡ some s → (listing_in x s ≡ b) × StateListed s
   unfolding read_in listing_in text_of head_fields
   form-listing b s e = at_lines (text_lines b) refl e
     where
       at_rest_lem : (h : State) (ls : List Line) → HeadListed h → LinesGood ls → (o : Option Rest) → rest_of ls ≡ o → tabled_from h o ≡ some s
-          → (text_of x (HeadLine (on_table [] s) ∷ lines_of s.table) ≡ text_of x (HeadLine h ∷ ls)) × Listed s
+          → (text_of x (HeadLine (on_table [] s) ∷ lines_of s.table) ≡ text_of x (HeadLine h ∷ ls)) × StateListed s
       at_rest_lem h ls v g none q d = absurd (never_some d)
       at_rest_lem h ls v g (some p) q d = with_rest p.candidates p.table (rest_text ls p q) (rest_listed ls p g q).table d
         where
           with_rest : (cs : List Candidate) (t : Table) → text_of x (map CandidateLine cs ++ lines_of t) ≡ text_of x ls → TableListed t → tabled h cs t ≡ some s
-              → (text_of x (HeadLine (on_table [] s) ∷ lines_of s.table) ≡ text_of x (HeadLine h ∷ ls)) × Listed s
+              → (text_of x (HeadLine (on_table [] s) ∷ lines_of s.table) ≡ text_of x (HeadLine h ∷ ls)) × StateListed s
           with_rest (c ∷ cs) t w a d = absurd (never_some d)
           with_rest [] t w a d =
               let g : on_table t h ≡ s = cc in
               rw (← g) (ap (λ (u : List ℕ). joined (head_fields x h) ++ (10 ∷ u)) w, record { head = with_table t h v; table = a })
 
-      at_state : (ls : List Line) → LinesGood ls → state_of (some ls) ≡ some s → (text_of x (HeadLine (on_table [] s) ∷ lines_of s.table) ≡ text_of x ls) × Listed s
+      at_state : (ls : List Line) → LinesGood ls → state_of (some ls) ≡ some s → (text_of x (HeadLine (on_table [] s) ∷ lines_of s.table) ≡ text_of x ls) × StateListed s
       at_state [] g d = absurd (never_some d)
       at_state (HeadLine h ∷ ls) g d = at_rest_lem h ls g.0.0 g.1 (rest_of ls) refl d
       at_state (RequestLine r ∷ ls) g d = absurd (never_some d)
       at_state (CandidateLine c ∷ ls) g d = absurd (never_some d)
 
       at_text : (ts : List (List ℕ)) (o : Option (List Line)) → lines_in x ts ≡ o → state_of o ≡ some s
-          → (text_of x (HeadLine (on_table [] s) ∷ lines_of s.table) ≡ ended_lines ts) × Listed s
+          → (text_of x (HeadLine (on_table [] s) ∷ lines_of s.table) ≡ ended_lines ts) × StateListed s
       at_text ts none q d = absurd (never_some d)
       at_text ts (some ls) q d =
           let r = lines_in_text ts ls q in
           let p = at_state ls r.1 d in
           (p.0 ∙ sym r.0, p.1)
 
-      at_lines : (o : Option (List (List ℕ))) → text_lines b ≡ o → state_of (lines_from x o) ≡ some s → (text_of x (HeadLine (on_table [] s) ∷ lines_of s.table) ≡ b) × Listed s
+      at_lines : (o : Option (List (List ℕ))) → text_lines b ≡ o → state_of (lines_from x o) ≡ some s → (text_of x (HeadLine (on_table [] s) ∷ lines_of s.table) ≡ b) × StateListed s
       at_lines none q d = absurd (never_some d)
       at_lines (some ts) q d = let p = at_text ts (lines_in x ts) refl d in (p.0 ∙ sym (lines-text b ts q), p.1)
 
@@ -224,7 +201,7 @@ owner-listed : (k : Key) (o : Option Owner) (cs : List Candidate) → OwnerFits 
 owner-listed k none cs f a = tt
 owner-listed k (some o) cs f a = record { connection = has_word k o.connection cs f.0 a; deadline = f.1 }
 
-hashes-listed : (hs : List ℕ) → Hashes hs → Every (λ h. h < top) hs
+hashes-listed : (hs : List ℕ) → Hashes hs → Each (λ h. h < top) hs
 hashes-listed [] a = tt
 hashes-listed (h ∷ hs) a = (a.0, hashes-listed hs a.1)
 
@@ -248,7 +225,7 @@ item-listed WitnessTransaction h k l e = (tt, let d : h ≡ k.hash = cc in omega
 item-listed WTx h k l e = (tt, let d : h ≡ k.hash = cc in omega arith)
 item-listed (Other n) h k l e = absurd (never_some e)
 
-candidates-listed : (k : Key) (cs : List Candidate) → k.hash < top → AllFit k cs → Every CandidateListed cs
+candidates-listed : (k : Key) (cs : List Candidate) → k.hash < top → AllFit k cs → Each CandidateListed cs
 candidates-listed k [] h a = tt
 candidates-listed k (c ∷ cs) h a =
     let f = a.0 in
@@ -268,11 +245,11 @@ poll-listed : (p : Option ℕ) → PollFits p → Whenever (λ n. n < word) p
 poll-listed none f = tt
 poll-listed (some n) f = f
 
-cursor-listed : (c : Option Key) → CursorFits c → Whenever KeyListed c
+cursor-listed : (c : Option Key) → CursorFits c → Whenever KeyTyped c
 cursor-listed none f = tt
 cursor-listed (some k) f = f
 
-pub sound-listed : (s : State) → Sound s → Listed s
+pub sound-listed : (s : State) → Sound s → StateListed s
 sound-listed s v = record {
   head = record {
     limit = omega arith;
@@ -301,8 +278,8 @@ one_listing s t v w e =
     cc
 
 -- a text is read exactly if it is the listing of a state that can be written: all others get 11
-pub listed_read : (s : State) → Listed s → read_listing (listing s) ≡ some s
+pub listed_read : (s : State) → StateListed s → read_listing (listing s) ≡ some s
 listed_read s v = form_read short short-fits s v
 
-pub read_listed : (b : List ℕ) (s : State) → read_listing b ≡ some s → Listed s
+pub read_listed : (b : List ℕ) (s : State) → read_listing b ≡ some s → StateListed s
 read_listed b s e = (form-listing short short-fits b s e).1

@@ -18,9 +18,10 @@ use Rattle.machine.specs.State.{Candidate, Owner, Package, Request, Table, State
 use Rattle.machine.specs.Table.{one, any, by, under, by_under, count_in, total, count, owner_in, owners, places_held, has}
 use Rattle.machine.specs.Claim.{elem, same_kind}
 use Rattle.machine.specs.Sound.{Hashes, NoRepeat, CursorFits, PollFits, Fits, AllFit, OwnerFits, PackageFits, ParentsFit, Packed, Marked, Lawful, Ordered, All, Filled, Bounded, Sound}
-use Rattle.machine.specs.SoundTest.{hashes_fit, no_repeat, cursor_fits, poll_fits, key_is, fits, all_fit, owner_fits, package_fits, parents_fit, is_empty, is_packed, mark_fits, is_lawful}
+use Rattle.machine.specs.SoundTest.{hashes_fit, no_repeat, cursor_fits, poll_fits, key_is, fits, all_fit, owner_fits, package_fits, parents_fit, is_packed, mark_fits, is_lawful}
 use Rattle.machine.specs.SoundTest.{is_ordered, every, is_filled, every_in, every_one, crowd_fits, is_bounded, sizes_fit, is_sound}
 use Rattle.machine.proofs.Tests.{test, never, and_left, and_right}
+use Rattle.machine.specs.Leave.{is_empty}
 
 -- ---- tests put together
 

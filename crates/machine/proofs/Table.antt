@@ -19,13 +19,13 @@ use Rattle.machine.proofs.Tests.{test, by_test, never}
 
 -- ---- order
 
-weaken : (lo hi : ℕ) (t : Table) → lo ≤ hi → Ordered hi t → Ordered lo t
-weaken lo hi [] h o = tt
-weaken lo hi (r ∷ t) h o = (omega arith, o.1, o.2)
+pub weaken : {lo hi : ℕ} (t : Table) → lo ≤ hi → Ordered hi t → Ordered lo t
+weaken [] h o = tt
+weaken (r ∷ t) h o = (omega arith, o.1, o.2)
 
 ordered-keep : (lo : ℕ) (r : Request) (cs : List Candidate) (t : Table) → lo ≤ place r.key → r.key.hash < top → Ordered (suc (place r.key)) t → Ordered lo (keep r cs t)
 unfolding keep
-ordered-keep lo r [] t h s o = weaken lo _ t (omega arith) o
+ordered-keep lo r [] t h s o = weaken t (omega arith) o
 ordered-keep lo r (c ∷ cs) t h s o = (h, s, o)
 
 pub ordered-change : (k : Key) (f : Request → Request) (lo : ℕ) (t : Table) → ((r : Request) → (f r).key ≡ r.key) → lo ≤ place k → k.hash < top → Ordered lo t → Ordered lo (change k f t)

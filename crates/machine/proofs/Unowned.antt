@@ -15,7 +15,7 @@ use Rattle.machine.specs.Sound.{Ordered}
 use Rattle.machine.proofs.Table.{at_absent}
 use Rattle.machine.proofs.Tests.{test}
 
-no-weight : (b : Bool) (o : Option Owner) → b ≡ false → owner_in (λ n. b) o ≡ 0
+pub no-weight : (b : Bool) (o : Option Owner) → b ≡ false → owner_in (λ n. b) o ≡ 0
 no-weight b none e = refl
 no-weight b (some o) e = ap one e
 

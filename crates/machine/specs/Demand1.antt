@@ -5,7 +5,7 @@ use Rattle.machine.specs.State.{State, limits_of}
 use Rattle.machine.specs.Table.{places_held}
 use Rattle.machine.specs.Package.{solicit}
 use Rattle.machine.specs.Sound.{Sound}
-use Rattle.machine.specs.Listing.{listing, Listed}
+use Rattle.machine.specs.Listing.{listing, StateListed}
 use Rattle.machine.specs.Call.{Ask, Role, AsSolicitation, AsSweep, AsOther, role_of, Call, Open, Restore, On, named, refusal}
 use Rattle.machine.specs.Step.{Refused, carry_out, answer_bytes, written, buffer_of, Outcome, step_if}
 
@@ -43,7 +43,7 @@ pub data OpeningCause (n L Q r : ℕ) : Type 0 where
 
 -- of the reading of a text x by such a store: whether it is the listing of a state,
 abbrev pub Lists : List ℕ → State → Type 0
-Lists x t = Listed t × (listing t ≡ x)
+Lists x t = StateListed t × (listing t ≡ x)
 
 pub data ReadingCause (n : ℕ) (x : List ℕ) (r : ℕ) : Type 0 where
   -- "An unreadable or misplaced line, a parent or wtxid list of wrong length, no line at all or falling keys"

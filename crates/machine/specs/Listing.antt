@@ -5,7 +5,7 @@ use Rattle.ident.specs.declared.ItemKind.{ItemKind}
 use Rattle.ident.specs.declared.ItemKind.TheVariants.{Transaction, WitnessTransaction, WTx, Other}
 use Rattle.ident.specs.Number.{top, Key, Item, place, is_plain}
 use Rattle.machine.specs.Limits.{max_wtxids, max_parents, word}
-use Rattle.machine.specs.State.{Candidate, Owner, Package, Request, Table, State, on_table, with_candidates}
+use Rattle.machine.specs.State.{Candidate, Owner, Package, Request, Table, State, on_table, with_candidates, Each, KeyTyped}
 use Rattle.machine.specs.Text.{decimal, hexadecimal, bool_text, kind_letter, item_kind_text, joined}
 use Rattle.machine.specs.Fields.{digit_of, number_of, type_of, hash_of, bool_of, kind_of, key_with, before}
 use Rattle.machine.specs.Fields.{behind, item_with, letter_kind, other_kind, same_text, fields, taking, ending, elements_then}
@@ -267,16 +267,9 @@ abbrev pub Whenever : {A : Type 0} → (A → Type 0) → Option A → Type 0
 Whenever Good none = Unit {0}
 Whenever Good (some a) = Good a
 
-abbrev pub Every : {A : Type 0} → (A → Type 0) → List A → Type 0
-Every Good [] = Unit {0}
-Every Good (a ∷ l) = Good a × Every Good l
-
-abbrev pub KeyListed : Key → Type 0
-KeyListed k = k.hash < top
-
 -- "a parent or wtxid list of wrong length"
 pub record HashesListed (lo hi : ℕ) (hs : List ℕ) : Type 0 where
-  pub hashes : Every (λ h. h < top) hs
+  pub hashes : Each (λ h. h < top) hs
   pub least : lo ≤ length hs
   pub most : length hs ≤ hi
 
@@ -303,7 +296,7 @@ pub record CandidateListed (c : Candidate) : Type 0 where
   pub priority : c.priority < word
 
 pub record RequestListed (r : Request) : Type 0 where
-  pub key : KeyListed r.key
+  pub key : KeyTyped r.key
   pub owner : Whenever OwnerListed r.owner
   pub packed : Whenever PackageListed r.«package»
   pub parents : HashesListed 0 max_parents r.parents
@@ -315,15 +308,15 @@ NotBelow k (q ∷ t) = place k ≤ place q.key
 
 abbrev pub TableListed : Table → Type 0
 TableListed [] = Unit {0}
-TableListed (r ∷ t) = NotBelow r.key t × RequestListed r × Every CandidateListed r.candidates × TableListed t
+TableListed (r ∷ t) = NotBelow r.key t × RequestListed r × Each CandidateListed r.candidates × TableListed t
 
 pub record HeadListed (s : State) : Type 0 where
   pub limit : s.limit < word
   pub places : s.places < word
   pub poll : Whenever (λ n. n < word) s.next_poll
-  pub known : Whenever KeyListed s.known_cursor
-  pub ready : Whenever KeyListed s.ready_cursor
+  pub known : Whenever KeyTyped s.known_cursor
+  pub ready : Whenever KeyTyped s.ready_cursor
 
-pub record Listed (s : State) : Type 0 where
+pub record StateListed (s : State) : Type 0 where
   pub head : HeadListed s
   pub table : TableListed s.table

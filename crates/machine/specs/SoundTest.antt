@@ -8,6 +8,7 @@ use Rattle.machine.specs.Limits.{Limits, max_announcements, max_places, max_peer
 use Rattle.machine.specs.State.{Candidate, Owner, Package, Request, Table, State, limits_of, is_some}
 use Rattle.machine.specs.Table.{by_under, count, held, held_by, held_at, owned_by, owned_at, places_held, has}
 use Rattle.machine.specs.Claim.{elem, same_kind, same_key}
+use Rattle.machine.specs.Leave.{is_empty}
 
 -- ---- numbers in their ranges
 
@@ -54,10 +55,6 @@ package_fits p = (ltb p.combined top && hashes_fit p.wtxids) && (leb 1 (length p
 -- "up to 100 parents", "parents distinct"
 abbrev pub parents_fit : List ℕ → Bool
 parents_fit hs = hashes_fit hs && (no_repeat hs && leb (length hs) max_parents)
-
-abbrev pub is_empty : List ℕ → Bool
-is_empty [] = true
-is_empty (h ∷ hs) = false
 
 -- "flag or package only with an owner, never both, only on Wtxid keys; parents .. only beside flag or package"
 abbrev pub is_packed : Kind → Option Owner → Bool → Option Package → List ℕ → Bool

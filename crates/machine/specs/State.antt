@@ -1,7 +1,7 @@
 -- What a state holds (document 01, "What a state holds").
-use Rattle.std.specs.Prelude.{ℕ, min, Bool, true, false, List, [], eqb, if◌then◌else◌}
+use Rattle.std.specs.Prelude.{ℕ, min, ◌<◌, Bool, true, false, List, [], ◌∷◌, eqb, if◌then◌else◌}
 use Rattle.std.proofs.Math.Option.{Option, none, some}
-use Rattle.ident.specs.Number.{Key, Item}
+use Rattle.ident.specs.Number.{top, Key, Item}
 use Rattle.machine.specs.Limits.{Limits, max_alternates}
 
 -- One announcement: who can deliver, as what item, from when on, and how it ranks.
@@ -136,3 +136,13 @@ is_some (some a) = true
 abbrev pub is_none {ℓ} : {A : Type ℓ} → Option A → Bool
 is_none none = true
 is_none (some a) = false
+
+-- ---- numbers of their widths
+
+-- of every element of a list
+abbrev pub Each : {A : Type 0} → (A → Type 0) → List A → Type 0
+Each P [] = Unit {0}
+Each P (a ∷ l) = P a × Each P l
+
+abbrev pub KeyTyped : Key → Type 0
+KeyTyped k = k.hash < top

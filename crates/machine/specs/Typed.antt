@@ -1,10 +1,11 @@
 -- The arguments of a call are numbers of their widths: connections, times and priorities of 64 bits, hashes of 256. Code is
 -- handed nothing else, so that this asks nothing of a caller.
-use Rattle.std.specs.Prelude.{ℕ, ◌<◌, List, [], ◌∷◌}
+use Rattle.std.specs.Prelude.{ℕ, ◌<◌, List, []}
 use Rattle.std.proofs.Math.Option.{Option, none, some}
 use Rattle.ident.specs.Number.{top, Key, Item}
 use Rattle.machine.specs.Limits.{word}
 use Rattle.machine.specs.State.{Candidate, Entry}
+pub use Rattle.machine.specs.State.{Each, KeyTyped}
 use Rattle.machine.specs.Sound.{Hashes}
 use Rattle.machine.specs.Wrapper.{Offer}
 use Rattle.machine.specs.Call.{Ask, Announce, RequestParent, Failed, Unclaim, SolicitPackageInfo, ClaimPackage, BeginPackageResolution, AnnounceParents}
@@ -25,13 +26,6 @@ pub record EntryTyped (a : Entry) : Type 0 where
 pub record OfferTyped (o : Offer) : Type 0 where
   pub hash : o.item.hash < top
   pub priority : o.priority < word
-
-abbrev pub Each : {A : Type 0} → (A → Type 0) → List A → Type 0
-Each P [] = Unit {0}
-Each P (a ∷ l) = P a × Each P l
-
-abbrev pub KeyTyped : Key → Type 0
-KeyTyped k = k.hash < top
 
 abbrev pub KeysTyped : Option (List Key) → Type 0
 KeysTyped none = Unit {0}

@@ -11,6 +11,7 @@ use borrow.Author.Tests.{leb-true}
 use Rattle.ident.specs.declared.Kind.{Kind}
 use Rattle.ident.specs.declared.Kind.TheVariants.{Txid, Wtxid}
 use Rattle.ident.specs.Number.{top, Key, base, place, txid}
+use Rattle.ident.proofs.Places.{is-wtxid}
 use Rattle.words.specs.Words.{number}
 use Rattle.regions.specs.declared.Row.{Row}
 use Rattle.regions.specs.declared.Key.{Key as RowKey}
@@ -63,10 +64,6 @@ rises-table k lo (q ∷ t) o a =
 is-txid : (k : Kind) (h : ℕ) → base k + h < top → k ≡ Txid
 is-txid Txid h l = refl
 is-txid Wtxid h l = absurd (omega arith)
-
-is-wtxid : (k : Kind) (h : ℕ) → h < top → top ≤ base k + h → k ≡ Wtxid
-is-wtxid Txid h m l = absurd (omega arith)
-is-wtxid Wtxid h m l = refl
 
 txids_up : (k : Key) (t : Table) → place k < top → AllOf Txid (up_to k t)
 unfolding up_to

@@ -19,7 +19,7 @@ use Rattle.machine.proofs.Tests.{never}
 use Rattle.store.specs.Flat.{flat_of, row_of, rows_for, rows_of, places_for, places_of, tally}
 use Rattle.store.specs.Image.{Shows, Writes}
 use Rattle.store.specs.Shown.{with_places}
-use Rattle.store.proofs.Placed.{Kept}
+use Rattle.store.proofs.Placed.{Alike}
 use Rattle.store.proofs.PlacesAt.{place_comes, place_goes, place-replaced, places-unchanged}
 use Rattle.store.proofs.RowBack.{rows_like}
 use Rattle.store.proofs.Split.{rows_below, rows_above, rows_at, rows-change}
@@ -52,7 +52,7 @@ flag-stage q o = rw (o.info, o.bare)
 
 -- ---- a change beside the rows
 
-module _ (st : State) (s : Sound st) (k : Key) (g : Request → Request) (same : Kept (g (at k st.table)) (at k st.table)) where
+module _ (st : State) (s : Sound st) (k : Key) (g : Request → Request) (same : Alike (g (at k st.table)) (at k st.table)) where
   rows_stay : rows_for (g (at k st.table)) ≡ rows_for (at k st.table)
   unfolding rows_for
   rows_stay =
@@ -81,7 +81,7 @@ module _ (st : State) (s : Sound st) (h : ℕ) (small : h < top) {i : ℕ} (bd :
   its-hash : q.key.hash ≡ h
   its-hash = ap (λ (j : Key). j.hash) (at_key (wtxid h) 0 st.table small s.bounded.ordered)
 
-  module _ (g : Request → Request) (same : Kept (g q) q) where
+  module _ (g : Request → Request) (same : Alike (g q) q) where
     replaced : has_place q ≡ true → (p : Place) → places_for (g q) ≡ p ∷ [] → {b : List ℕ} → Shows b (with_places (set (places_of st.table) i p) (flat_of st))
         → Writes b (on_table (change (wtxid h) g st.table) st)
     replaced e p w x =
@@ -97,7 +97,7 @@ module _ (st : State) (s : Sound st) (h : ℕ) (small : h < top) {i : ℕ} (bd :
   opened o x =
       let k = wtxid h in
       let t = st.table in
-      let same : Kept (flagged q) q = record { key = refl; candidates = refl; owner = refl; fallback = refl } in
+      let same : Alike (flagged q) q = record { key = refl; candidates = refl; owner = refl; fallback = refl } in
       let before : places_for q ≡ [] = rw (o.info, o.bare) in
       let after : places_for (flagged q) ≡ blank h 1 ∷ [] = rw (o.bare, its-hash) in
       made st s k flagged same (place_comes k 0 t s.bounded.ordered flagged (some_one st s k flagged same o.owned) (blank h 1) before after ∙
@@ -106,7 +106,7 @@ module _ (st : State) (s : Sound st) (h : ℕ) (small : h < top) {i : ℕ} (bd :
   pub parent-added : (n : ℕ) → has_place q ≡ true → (d : Place) {b : List ℕ} → Shows b (with_places (set (places_of st.table) i
       (with_parents ((get_or (places_of st.table) i d).parents ++ (n ∷ [])) (get_or (places_of st.table) i d))) (flat_of st)) → Writes b (on_table (change (wtxid h) (with_parent n) st.table) st)
   parent-added n e d {b} x =
-      let same : Kept (with_parent n q) q = record { key = refl; candidates = refl; owner = refl; fallback = refl } in
+      let same : Alike (with_parent n q) q = record { key = refl; candidates = refl; owner = refl; fallback = refl } in
       replaced (with_parent n) same e (place_in (with_parent n q)) (place_held (with_parent n q) e)
       (subst (λ (p : Place). Shows b (with_places (set (places_of st.table) i (with_parents (p.parents ++ (n ∷ [])) p)) (flat_of st))) (its-place st s h small bd e d) x)
 
@@ -115,7 +115,7 @@ module _ (st : State) (s : Sound st) (h : ℕ) (small : h < top) {i : ℕ} (bd :
       → Shows b (with_places (set (places_of st.table) i (with_stage 3 (get_or (places_of st.table) i d))) (flat_of st)) → Writes b (on_table (change (wtxid h) (packaged (begun p)) st.table) st)
   unfolding places_for
   stage-set p w e d {b} x =
-      let same : Kept (packaged (begun p) q) q = record { key = refl; candidates = refl; owner = refl; fallback = refl } in
+      let same : Alike (packaged (begun p) q) q = record { key = refl; candidates = refl; owner = refl; fallback = refl } in
       let z : places_for (packaged (begun p) q) ≡ with_stage 3 (place_in q) ∷ [] = rw w in
       replaced (packaged (begun p)) same e (with_stage 3 (place_in q)) z
       (subst (λ (y : Place). Shows b (with_places (set (places_of st.table) i (with_stage 3 y)) (flat_of st))) (its-place st s h small bd e d) x)
@@ -127,12 +127,12 @@ module _ (st : State) (s : Sound st) (h : ℕ) (small : h < top) {i : ℕ} (bd :
   unfolding places_for
   claimed c ws o d {b} x =
       let p : Package = record { combined = c; wtxids = ws; enqueued = false } in
-      let same : Kept (packaged p q) q = record { key = refl; candidates = refl; owner = refl; fallback = refl } in
+      let same : Alike (packaged p q) q = record { key = refl; candidates = refl; owner = refl; fallback = refl } in
       let e = flag_held q o in
       replaced (packaged p) same e (with_stage 2 (with_combined c (with_wtxids ws (place_in q)))) refl
       (subst (λ (y : Place). Shows b (with_places (set (places_of st.table) i (with_stage 2 (with_combined c (with_wtxids ws y)))) (flat_of st))) (its-place st s h small bd e d) x)
 
-  beside : Kept (closed q) q
+  beside : Alike (closed q) q
   beside = record { key = refl; candidates = refl; owner = refl; fallback = refl }
 
   gone : places_for (closed q) ≡ []

@@ -16,7 +16,7 @@ use Rattle.machine.proofs.Fail.{parents_none}
 use Rattle.machine.proofs.Kept.{sound-table}
 use Rattle.machine.proofs.Table.{ordered-change, count-change, owners-change, places-change, all_change, filled-change, lawful_at, at_key}
 use Rattle.machine.proofs.Tests.{never}
-use Rattle.store.proofs.Placed.{Kept}
+use Rattle.store.proofs.Placed.{Alike}
 use Rattle.package_stages.specs.Changes.{OwnedPlain, flagged}
 
 -- ---- a change beside the rows
@@ -28,7 +28,7 @@ module _ (st : State) (s : Sound st) (k : Key) (small : k.hash < top) (g : Reque
   o : Ordered 0 st.table
   o = s.bounded.ordered
 
-  module _ (same : Kept (g q) q) where
+  module _ (same : Alike (g q) q) where
     fewer : (p : Key → ℕ → Bool) → count p (change k g st.table) ≤ count p st.table
     fewer p =
         let e : count_in (p (g q).key) (g q).candidates ≡ count_in (p q.key) q.candidates = rw (same.key, same.candidates) in

@@ -13,27 +13,28 @@ use Rattle.owners.specs.Back.{holding_in, holdings_in}
 use Rattle.machine.specs.Step.{Reply, Owned, answer_bytes}
 use Rattle.machine.proofs.Owners.{length-holdings_answer}
 use Rattle.machine.specs.Text.{decimal, decimal_digits, key_text, joined}
-use Rattle.lines.specs.Text.{Wrote}
+use Rattle.lines.specs.Text.{Wrote, with_commas}
 use Rattle.machine.proofs.Numerals.{length-numeral}
 use Rattle.lines.proofs.Writing.{wrote_more, wrote_none}
-use Rattle.printing.specs.Replies.{none_text, owner_text, owner_texts, reply_text}
-use Rattle.printing.specs.Given.{answer_room, most_owners, owner_room, behind, OwnersFit, Printed, ReplyPrinted}
+use Rattle.printing.specs.Replies.{owner_text, owner_texts, reply_text}
+use Rattle.printing.specs.Given.{answer_room, most_owners, owner_room, OwnersFit, Printed, ReplyPrinted}
 use Rattle.printing.proofs.KeyLists.{key-length}
 use Rattle.printing.proofs.Printing.{decimal_end}
-use Rattle.printing.proofs.Behind.{joined-behind, behind_both}
+use Rattle.machine.specs.Listing.{none_text}
+use Rattle.lines.proofs.Commas.{joined-commas, commas_both}
 
 -- ---- one owner
 
 -- its texts, each behind a comma
-texts-are : (a : Holding) → behind (owner_text (some a)) ≡ (((44 ∷ []) ++ key_text a.key) ++ (44 ∷ decimal a.connection)) ++ (44 ∷ decimal a.deadline)
-unfolding behind
+texts-are : (a : Holding) → with_commas (owner_text (some a)) ≡ (((44 ∷ []) ++ key_text a.key) ++ (44 ∷ decimal a.connection)) ++ (44 ∷ decimal a.deadline)
+unfolding with_commas
 texts-are a = simp (append_assoc, append-nil)
 
-none_is : behind (owner_text none) ≡ 44 ∷ none_text
-unfolding behind
+none_is : with_commas (owner_text none) ≡ 44 ∷ none_text
+unfolding with_commas
 none_is = refl
 
-owner-length : (o : Option Holding) → length (behind (owner_text o)) ≤ owner_room
+owner-length : (o : Option Holding) → length (with_commas (owner_text o)) ≤ owner_room
 owner-length none = omega (arith, ap length none_is)
 owner-length (some a) =
     let k = key-length a.key in
@@ -42,12 +43,12 @@ owner-length (some a) =
     rw (texts-are a) (simp length-append (omega arith))
 
 module _ {s : List ℕ} {at : ℕ} {o : Option Holding} where
-  pub wrote-nobody : {s' : List ℕ} {r : ℕ} → o ≡ none → Wrote s s' at (44 ∷ none_text) r → Wrote s s' at (behind (owner_text o)) r
+  pub wrote-nobody : {s' : List ℕ} {r : ℕ} → o ≡ none → Wrote s s' at (44 ∷ none_text) r → Wrote s s' at (with_commas (owner_text o)) r
   wrote-nobody e w = rw (e, none_is) w
 
   pub wrote-owner : {a : Holding} → o ≡ some a → at + owner_room ≤ length s → {s₁ s₂ s₃ s₄ : List ℕ} {e₁ e₂ e₃ r : ℕ} → Wrote s s₁ at (44 ∷ []) e₁ → Wrote s₁ s₂ e₁ (key_text a.key) e₂
       → Wrote s₂ s₃ e₂ (44 ∷ decimal a.connection) e₃ → Wrote s₃ s₄ e₃ (44 ∷ decimal a.deadline) r
-      → Wrote s s₄ at (behind (owner_text o)) r
+      → Wrote s s₄ at (with_commas (owner_text o)) r
   wrote-owner {a} e room w₁ w₂ w₃ w₄ =
       let l₁ = key-length a.key in
       let lc = length-numeral 10 decimal_digits a.connection in
@@ -85,24 +86,24 @@ pub record Telling (hs : List ℕ) (u out₀ out : Buffer) (at to i : ℕ) : Typ
   pub most : i ≤ length hs
   pub long : length out ≡ length out₀
   pub ends : to ≤ at + owner_room * i
-  pub wrote : Wrote out₀ out at (behind (owner_texts (take i (holdings_in hs u)))) to
+  pub wrote : Wrote out₀ out at (with_commas (owner_texts (take i (holdings_in hs u)))) to
 
 module _ (hs : List ℕ) (u : Buffer) {out₀ : List ℕ} {at : ℕ} where
   pub telling_none : Telling hs u out₀ out₀ at at 0
-  unfolding behind owner_texts
+  unfolding with_commas owner_texts
   telling_none = record { most = omega arith; long = refl; ends = omega arith; wrote = record { bytes = (wrote_none out₀ at).bytes; next = omega arith } }
 
   pub telling_more : {out out' : List ℕ} {to i h r : ℕ} → Telling hs u out₀ out at to i → i < length hs → h ≡ get_or hs i 0 → to + owner_room ≤ length out₀ → length out' ≡ length out
-      → Wrote out out' to (behind (owner_text (holding_in h (drop (owner_bytes * i) u)))) r → Telling hs u out₀ out' at r (i + 1)
+      → Wrote out out' to (with_commas (owner_text (holding_in h (drop (owner_bytes * i) u)))) r → Telling hs u out₀ out' at r (i + 1)
   telling_more {out} {out'} {to} {i} {h} {r} t m e room l w =
       let o = holding_in h (drop (owner_bytes * i) u) in
       let k = owner-length o in
-      let x : behind (owner_texts (take (i + 1) (holdings_in hs u))) ≡ behind (owner_texts (take i (holdings_in hs u))) ++ behind (owner_text o) =
-      ap (λ (n : ℕ). behind (owner_texts (take n (holdings_in hs u)))) (add-one i)
-      ∙ ap (λ (q : List (Option Holding)). behind (owner_texts q))
+      let x : with_commas (owner_texts (take (i + 1) (holdings_in hs u))) ≡ with_commas (owner_texts (take i (holdings_in hs u))) ++ with_commas (owner_text o) =
+      ap (λ (n : ℕ). with_commas (owner_texts (take n (holdings_in hs u)))) (add-one i)
+      ∙ ap (λ (q : List (Option Holding)). with_commas (owner_texts q))
       (last_owner hs u i m ∙ ap (λ (n : ℕ). take i (holdings_in hs u) ++ (holding_in n (drop (owner_bytes * i) u) ∷ [])) (sym e))
-      ∙ ap behind (texts_last (take i (holdings_in hs u)) o)
-      ∙ behind_both (owner_texts (take i (holdings_in hs u))) (owner_text o) in
+      ∙ ap with_commas (texts_last (take i (holdings_in hs u)) o)
+      ∙ commas_both (owner_texts (take i (holdings_in hs u))) (owner_text o) in
       record {
         most = omega arith;
         long = l ∙ t.long;
@@ -114,10 +115,10 @@ module _ (hs : List ℕ) (u : Buffer) {out₀ : List ℕ} {at : ℕ} where
       → Printed s out (joined (decimal passed ∷ owner_texts (holdings_in hs u))) to
   telling_all {s} {out} {to} {i} passed room p t m f =
       let e : take i (holdings_in hs u) ≡ holdings_in hs u = take_all i (holdings_in hs u) (omega (arith, length-owners hs u)) in
-      let q : Wrote out₀ out at (behind (owner_texts (holdings_in hs u))) to = subst (λ (l : List (Option Holding)). Wrote out₀ out at (behind (owner_texts l)) to) e t.wrote in
+      let q : Wrote out₀ out at (with_commas (owner_texts (holdings_in hs u))) to = subst (λ (l : List (Option Holding)). Wrote out₀ out at (with_commas (owner_texts l)) to) e t.wrote in
       let d = decimal_end passed p in
       record {
-        wrote = rw (joined-behind (decimal passed) (owner_texts (holdings_in hs u))) (wrote_more p q (omega (arith, q.next, t.ends, t.most)));
+        wrote = rw (joined-commas (decimal passed) (owner_texts (holdings_in hs u))) (wrote_more p q (omega (arith, q.next, t.ends, t.most)));
         room = omega (arith, t.ends, t.most);
       }
 

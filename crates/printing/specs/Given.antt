@@ -6,7 +6,7 @@ use Rattle.machine.specs.Step.{Reply, Refused, Number, answer_bytes}
 use Rattle.outcome.specs.Reply.{keys_listed}
 use Rattle.outcome.specs.Outcome.{Effect, Does}
 use Rattle.machine.specs.Text.{decimal_digits, decimal, hash_digits, bool_text, key_text, item_text}
-use Rattle.lines.specs.Text.{Wrote}
+use Rattle.lines.specs.Text.{Wrote, with_commas, number_room, key_room}
 use Rattle.printing.specs.Replies.{reply_text}
 
 -- ---- room
@@ -31,13 +31,6 @@ most_entries = 107
 abbrev pub most_owners : ℕ
 most_owners = 1024
 
--- ---- keys
-
--- texts that follow others: each behind a comma
-unfoldable pub behind : List (List ℕ) → List ℕ
-behind [] = []
-behind (t ∷ ts) = 44 ∷ (t ++ behind ts)
-
 -- ---- entries
 
 -- what stands behind an entry's key
@@ -46,13 +39,9 @@ candidate_texts c = decimal c.connection ∷ item_text c.item ∷ decimal c.read
 
 -- an entry's six texts, parted by commas
 abbrev pub entry_text : Entry → List ℕ
-entry_text a = key_text a.key ++ behind (candidate_texts a.candidate)
+entry_text a = key_text a.key ++ with_commas (candidate_texts a.candidate)
 
--- the most bytes of each text: `w` and a hash; `o`, a number and `:`; both; a comma and a number
-abbrev pub key_room : ℕ
-key_room = 1 + hash_digits
-
--- a key behind a comma
+-- the most bytes of each text: a key behind a comma; `o`, a number and `:`; these and a hash
 abbrev pub next_room : ℕ
 next_room = 1 + key_room
 
@@ -61,9 +50,6 @@ kind_room = 2 + decimal_digits
 
 abbrev pub item_room : ℕ
 item_room = kind_room + hash_digits
-
-abbrev pub number_room : ℕ
-number_room = 1 + decimal_digits
 
 -- three numbers, an item and a bool, each behind a comma
 abbrev pub candidate_room : ℕ

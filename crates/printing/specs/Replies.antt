@@ -7,6 +7,7 @@ use Rattle.machine.specs.Owners.{Holding}
 use Rattle.machine.specs.Call.{Call, Open, Restore, On}
 use Rattle.machine.specs.Step.{Reply, Refused, Number, Keys, Left, Entries, Chosen, Summed, Owned, Saved}
 use Rattle.machine.specs.Text.{decimal, bool_text, key_text, item_text, joined}
+use Rattle.machine.specs.Listing.{none_text}
 
 -- "An empty list is `-`."
 abbrev pub listed : List (List ℕ) → List ℕ
@@ -23,10 +24,6 @@ entry_texts [] = []
 entry_texts (a ∷ l) =
     let c = a.candidate in
     key_text a.key ∷ decimal c.connection ∷ item_text c.item ∷ decimal c.ready ∷ bool_text c.preferred ∷ decimal c.priority ∷ entry_texts l
-
--- `none`
-abbrev pub none_text : List ℕ
-none_text = 110 ∷ 111 ∷ 110 ∷ 101 ∷ []
 
 -- "for each hash `none`, or key, connection, deadline"
 abbrev pub owner_text : Option Holding → List (List ℕ)

@@ -6,9 +6,9 @@ ghost use Rattle.choosing.specs.Choosing.{option_of};
 ghost use Rattle.requests.specs.Changes.{candidate_of};
 ghost use Rattle.claiming.specs.Claiming.{entry_from, entries_from};
 ghost use Rattle.machine.specs.Text.{decimal, bool_text, key_text, item_kind_text, item_text, joined};
-ghost use Rattle.lines.specs.Text.{Wrote};
+ghost use Rattle.lines.specs.Text.{Wrote, key_room, number_room, with_commas};
 ghost use Rattle.printing.specs.Replies.{listed, entry_texts, time_text, selection_text};
-ghost use Rattle.printing.specs.Given.{answer_room, most_entries, key_room, kind_room, item_room, number_room, candidate_room, entry_room, behind, candidate_texts, entry_text, Printed};
+ghost use Rattle.printing.specs.Given.{answer_room, most_entries, kind_room, item_room, candidate_room, entry_room, candidate_texts, entry_text, Printed};
 
 use lines::write::{put_bytes, put_decimal};
 
@@ -66,7 +66,7 @@ fn put_bool(out: &mut [u8], at: usize, b: bool) -> usize
 // What stands behind an entry's key, each field behind a comma.
 fn put_candidate(out: &mut [u8], at: usize, c: requests::Candidate) -> usize
     requires { at + candidate_room ≤ length out.old }
-    ensures { Wrote out.old out.new at (behind (candidate_texts (candidate_of c))) result }
+    ensures { Wrote out.old out.new at (with_commas (candidate_texts (candidate_of c))) result }
 {
     let e = put_number(out, at, c.connection);
     let from = put_bytes(out, e, b",");
@@ -90,7 +90,7 @@ fn put_entry(out: &mut [u8], at: usize, answer: &[u8], i: usize) -> usize
 // this loop.)
 fn put_behind(out: &mut [u8], at: usize, answer: &[u8], first: usize, n: usize) -> usize
     requires { (entry_bytes * (first + n) ≤ length answer.now) × (at + entry_room * n ≤ length out.old) }
-    ensures { (result ≤ at + entry_room * n) × Wrote out.old out.new at (behind (entry_texts (entries_from answer.now first n))) result }
+    ensures { (result ≤ at + entry_room * n) × Wrote out.old out.new at (with_commas (entry_texts (entries_from answer.now first n))) result }
 {
     let mut to = at;
     for i in 0..n {

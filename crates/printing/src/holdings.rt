@@ -5,9 +5,9 @@ ghost use Rattle.machine.specs.Call.{owner_bytes};
 ghost use Rattle.lent_lists.specs.Lists.{hashes_in};
 ghost use Rattle.owners.specs.Back.{holding_in, holdings_in};
 ghost use Rattle.machine.specs.Text.{decimal, joined};
-ghost use Rattle.lines.specs.Text.{Wrote};
+ghost use Rattle.lines.specs.Text.{Wrote, with_commas};
 ghost use Rattle.printing.specs.Replies.{owner_text, owner_texts};
-ghost use Rattle.printing.specs.Given.{answer_room, most_owners, owner_room, behind, Printed};
+ghost use Rattle.printing.specs.Given.{answer_room, most_owners, owner_room, Printed};
 
 use crate::entries::put_number;
 use lines::write::put_bytes;
@@ -15,7 +15,7 @@ use lines::write::put_bytes;
 // The i-th owner, that of the hash h: `none`, or key, connection and deadline, each behind a comma.
 fn put_owner(out: &mut [u8], at: usize, answer: &[u8], i: usize, h: regions::Quad) -> usize
     requires { (owner_bytes * i + owner_bytes ≤ length answer.now) × (at + owner_room ≤ length out.old) }
-    ensures { Wrote out.old out.new at (behind (owner_text (holding_in (quad_number h) (drop (owner_bytes * i) answer.now)))) result }
+    ensures { Wrote out.old out.new at (with_commas (owner_text (holding_in (quad_number h) (drop (owner_bytes * i) answer.now)))) result }
 {
     let Some(owner) = owners::owner_at(answer, i) else {
         return put_bytes(out, at, b",none");

@@ -3,9 +3,9 @@ ghost use Rattle.std.specs.Prelude.{◌≡◌, ◌+◌, ◌*◌, ◌≤◌, ◌�
 ghost use Rattle.machine.specs.Call.{key_bytes};
 ghost use Rattle.lent_lists.specs.Lists.{key_in, keys_in};
 ghost use Rattle.machine.specs.Text.{decimal, key_text, joined};
-ghost use Rattle.lines.specs.Text.{Wrote};
+ghost use Rattle.lines.specs.Text.{Wrote, key_room, with_commas};
 ghost use Rattle.printing.specs.Replies.{listed, key_texts};
-ghost use Rattle.printing.specs.Given.{answer_room, most_keys, key_room, next_room, behind, listing_with, KeysFit, Printed, ListingPrinted};
+ghost use Rattle.printing.specs.Given.{answer_room, most_keys, next_room, listing_with, KeysFit, Printed, ListingPrinted};
 
 use crate::numbers::refusal;
 use lines::write::put_bytes;
@@ -21,7 +21,7 @@ fn put_key(out: &mut [u8], at: usize, answer: &[u8], i: usize) -> usize
 // n keys from the first on, each behind a comma. (As `entries::put_behind`.)
 fn put_behind(out: &mut [u8], at: usize, answer: &[u8], first: usize, n: usize) -> usize
     requires { (at + next_room * n ≤ length out.old) × (key_bytes * (first + n) ≤ length answer.now) }
-    ensures { (result ≤ at + next_room * n) × Wrote out.old out.new at (behind (key_texts (keys_in n (drop (key_bytes * first) answer.now)))) result }
+    ensures { (result ≤ at + next_room * n) × Wrote out.old out.new at (with_commas (key_texts (keys_in n (drop (key_bytes * first) answer.now)))) result }
 {
     let mut to = at;
     for i in 0..n {

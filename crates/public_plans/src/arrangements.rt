@@ -5,7 +5,7 @@ ghost use Rattle.machine.specs.Call.{On, Arrange, entry_bytes};
 ghost use Rattle.claiming.specs.Claiming.{entries_in};
 ghost use Rattle.outcome.specs.Outcome.{LeavesWith};
 ghost use Rattle.public_plans.specs.Entries.{entries_of};
-ghost use Rattle.public_plans.specs.Parts.{PartIs};
+ghost use Rattle.sending.specs.Parts.{PartIs};
 
 use super::on_sound;
 use claiming::entries::{CONNECTION, ENTRY};

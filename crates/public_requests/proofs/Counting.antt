@@ -13,7 +13,7 @@ use Rattle.outcome.specs.Tests.{in_turn}
 use Rattle.outcome.specs.Lent.{Lent}
 use Rattle.outcome.proofs.Turns.{never_none, connection_none, connection_some, connection_only}
 use Rattle.outcome.proofs.Carried.{front_writes}
-use Rattle.public_requests.specs.Counting.{Refused, Are, CountsOf}
+use Rattle.public_requests.specs.Counting.{NotCounted, Are, CountsOf}
 
 -- test 4, of connection 0 and of any other
 zero-refused : (n : ℕ) → n ≡ 0 → 4 ≡ in_turn (n ∷ []) [] 0 0 0
@@ -23,16 +23,16 @@ other_passes : (n : ℕ) → (n ≡ 0 → ⊥) → 0 ≡ in_turn (n ∷ []) [] 0
 other_passes n h = connection_some n h ∙ connection_only n
 
 module _ {b : List ℕ} (n : ℕ) where
-  pub counts-unsound : {e : Refusal} → (e ≡ NotSound) × (SoundStore b → ⊥) → CountsOf b n (Refused (number_of e))
-  counts-unsound h = record { unsound = λ _. ap (λ (e : Refusal). Refused (number_of e)) h.0; nobody = λ w e. absurd (h.1 w); told = λ w e. absurd (h.1 w) }
+  pub counts-unsound : {e : Refusal} → (e ≡ NotSound) × (SoundStore b → ⊥) → CountsOf b n (NotCounted (number_of e))
+  counts-unsound h = record { unsound = λ _. ap (λ (e : Refusal). NotCounted (number_of e)) h.0; nobody = λ w e. absurd (h.1 w); told = λ w e. absurd (h.1 w) }
 
   module _ (v : SoundStore b) where
     -- the refusal e is what the test answers
-    pub counts-refused : (e : Refusal) → number_of e ≡ in_turn (n ∷ []) [] 0 0 0 → CountsOf b n (Refused (number_of e))
+    pub counts-refused : (e : Refusal) → number_of e ≡ in_turn (n ∷ []) [] 0 0 0 → CountsOf b n (NotCounted (number_of e))
     counts-refused e q =
         record {
           unsound = λ no. absurd (no v);
-          nobody = λ w z. ap Refused (q ∙ sym (zero-refused n z));
+          nobody = λ w z. ap NotCounted (q ∙ sym (zero-refused n z));
           told = λ w h. absurd (never_none e (q ∙ sym (other_passes n h)));
         }
 

@@ -22,7 +22,7 @@ taking_none : {A : Type 0} (read : List ℕ → Option A) (k : A → List (List 
 unfolding taking
 taking_none read k = refl
 
-taking-field : {A : Type 0} (read : List ℕ → Option A) (k : A → List (List ℕ) → Option Line) (f : List ℕ) (fs : List (List ℕ)) → taking read k (f ∷ fs) ≡ with_value (read f) (λ v. k v fs)
+pub taking-field : {A B : Type 0} (read : List ℕ → Option A) (k : A → List (List ℕ) → Option B) (f : List ℕ) (fs : List (List ℕ)) → taking read k (f ∷ fs) ≡ with_value (read f) (λ v. k v fs)
 unfolding taking
 taking-field read k f fs = refl
 
@@ -57,10 +57,10 @@ module _ {T A : Type 0} (f : T → A) (read : List ℕ → Option A) {Answers : 
 
 -- ---- where the line ends
 
-pub ending_end : (l : List ℕ) (e : ℕ) (o : Option Line) → length l ≤ e → ending o (rest l (e + 1)) ≡ o
+pub ending_end : {B : Type 0} (l : List ℕ) (e : ℕ) (o : Option B) → length l ≤ e → ending o (rest l (e + 1)) ≡ o
 ending_end l e o h = ap (ending o) (rest_past l (e + 1) (omega arith))
 
-pub ending_more : (l : List ℕ) (e : ℕ) (o : Option Line) → e < length l → ending o (rest l (e + 1)) ≡ none
+pub ending_more : {B : Type 0} (l : List ℕ) (e : ℕ) (o : Option B) → e < length l → ending o (rest l (e + 1)) ≡ none
 ending_more l e o h = ap (ending o) (rest_field l (e + 1) (e + 1 + length (before 44 (drop (e + 1) l))) (omega arith) refl)
 
 -- ---- what was read

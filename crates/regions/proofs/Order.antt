@@ -84,6 +84,10 @@ pub quad_four : (q : Quad) → quad_number q ≡ four q.w0 q.w1 q.w2 q.w3
 unfolding quad_number number four
 quad_four q = let e : q.w3 + 2 ^ 64 * 0 ≡ q.w3 = omega arith in rw e
 
+pub zero_number : quad_number (record { w0 = 0; w1 = 0; w2 = 0; w3 = 0 }) ≡ 0
+unfolding quad_number number
+zero_number = refl
+
 pub number_quad : (h : ℕ) → quad_number (quad_of h) ≡ h
 unfolding quad_of four
 number_quad h = quad_four (quad_of h) ∙ rw (digit (h / 2 ^ 64 / 2 ^ 64), digit (h / 2 ^ 64), digit h)

@@ -1,17 +1,20 @@
 -- The rows of a hash are those of its two keys.
 use Prim.Native.Nat.{ℕ, ◌+◌, ◌-◌, ◌<◌}
-use mathlib.Core.Path.{◌≡◌, refl, sym, subst, ◌∙◌}
+use mathlib.Core.Path.{◌≡◌, refl, sym, ap, subst, ◌∙◌}
 use mathlib.Core.Bool.{Bool, true, false}
 use mathlib.Core.List.{List}
 use lib.ListN.{length}
 use Rattle.std.specs.Prelude.{Option, is_some}
+use Rattle.ident.specs.declared.Hash.{Hash}
 use Rattle.ident.specs.declared.Key.{Key}
 use Rattle.ident.specs.declared.Kind.{Kind}
 use Rattle.ident.specs.declared.Kind.TheVariants.{Txid, Wtxid}
 use Rattle.ident.specs.Number.{top, Key as Named, base, place, txid, wtxid}
-use Rattle.ident.specs.Words.{key_num}
+use Rattle.ident.specs.Words.{hash_num, key_num}
 use Rattle.regions.specs.declared.Key.{Key as RowKey}
-use Rattle.regions.specs.Rows.{key_number}
+use Rattle.regions.specs.declared.Quad.{Quad}
+use Rattle.regions.specs.Rows.{key_number, quad_number}
+use Rattle.regions.proofs.Order.{number_quad}
 use Rattle.machine.specs.State.{State}
 use Rattle.machine.specs.Table.{at, has, held_at, is_candidate}
 use Rattle.machine.specs.Sound.{Sound}
@@ -19,12 +22,16 @@ use Rattle.store.specs.Image.{Writes}
 use Rattle.store.specs.Shown.{FoundMet}
 use Rattle.store.specs.declared.rows.Window.{Window}
 use Rattle.requests.specs.declared.windows.Windows.{Windows}
-use Rattle.requests.specs.Changes.{KeyWords, Spans}
+use Rattle.requests.specs.Changes.{Words, KeyWords, Spans}
 use Rattle.requests.specs.Windows.{Windowed, of_kind}
 use Rattle.requests.proofs.AtHash.{held-at, window-size}
 use Rattle.requests.proofs.Finding.{found_among, found_holds}
 use Rattle.requests.proofs.Holding.{candidate_first, candidate-second}
 use Rattle.requests.proofs.Keeping.{from_at, to_at}
+
+-- the words of a hash have its number
+pub words-number : {h : Hash} {q : Quad} → Words h q → quad_number q ≡ hash_num h
+words-number {h} v = ap quad_number v.words_are ∙ number_quad (hash_num h)
 
 -- a key's rows by its place
 pub spans_at : {b : List ℕ} {k : Key} {r : RowKey} {from to : ℕ} → KeyWords k r → Spans b (key_number r) from to → Spans b (place (key_num k)) from to

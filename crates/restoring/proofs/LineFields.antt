@@ -14,6 +14,7 @@ use Rattle.regions.specs.declared.Quad.{Quad}
 use Rattle.regions.specs.declared.Row.{Row}
 use Rattle.places.specs.Places.{Place, PlaceShort, list_most}
 use Rattle.regions.specs.Rows.{quad_number}
+use Rattle.regions.proofs.Order.{zero_number}
 use Rattle.machine.specs.State.{Request, owner_is}
 use Rattle.machine.specs.Typed.{Each}
 use Rattle.std.specs.Prelude.{Option as Maybe, Some, None, MatchOption, is_some}
@@ -26,14 +27,12 @@ use Rattle.store.proofs.Quads.{quad-number}
 use Rattle.listed_lines.specs.declared.parts.Package as parts-package
 use Rattle.listed_lines.specs.declared.line.Request as line-request
 use Rattle.listed_lines.specs.declared.line.Candidate as line-candidate
-use Rattle.listed_lines.specs.Given.{list_room, owner_of, package_of, hashes_of, request_in, candidate_in}
-use Rattle.restoring.specs.Given.{Appends, stage_for, combined_for, wtxids_for, PlaceRoom}
+use Rattle.listed_lines.specs.Given.{list_room, owner_of, package_of, request_in, candidate_in}
+use Rattle.restoring.specs.Given.{Appends, PlaceRoom}
+use Rattle.package_stages.specs.Changes.{stage_of, combined_of, wtxids_of}
+use Rattle.reading.specs.Given.{hashes_of}
 
 -- ---- the package
-
-quad_zero : quad_number (record { w0 = 0; w1 = 0; w2 = 0; w3 = 0 }) ≡ 0
-unfolding quad_number number
-quad_zero = refl
 
 no-hashes : (ws : List ℕ) → hashes_of 0 ws ≡ []
 unfolding recs
@@ -42,20 +41,20 @@ no-hashes ws = refl
 -- what is answered of a package, or in its place; `Answers x`: it may be answered of x
 module _ (p : Maybe parts-package.Package) where
   pub combined-is : {q : Quad} {Answers : parts-package.Package → Type 0} → ((x : parts-package.Package) → Answers x → q ≡ x.combined)
-      → MatchOption p (q ≡ record { w0 = 0; w1 = 0; w2 = 0; w3 = 0 }) Answers → (ws : List ℕ) → quad_number q ≡ combined_for (package_of ws p)
+      → MatchOption p (q ≡ record { w0 = 0; w1 = 0; w2 = 0; w3 = 0 }) Answers → (ws : List ℕ) → quad_number q ≡ combined_of (package_of ws p)
   combined-is f m ws = by p f m
     where
       by : (p : Maybe parts-package.Package) {q : Quad} {Answers : parts-package.Package → Type 0} → ((x : parts-package.Package) → Answers x → q ≡ x.combined)
-          → MatchOption p (q ≡ record { w0 = 0; w1 = 0; w2 = 0; w3 = 0 }) Answers → quad_number q ≡ combined_for (package_of ws p)
-      by None f e = rw e quad_zero
+          → MatchOption p (q ≡ record { w0 = 0; w1 = 0; w2 = 0; w3 = 0 }) Answers → quad_number q ≡ combined_of (package_of ws p)
+      by None f e = rw e zero_number
       by (Some x) f a = ap quad_number (f x a)
 
   pub wtxids-are : {n : ℕ} {Answers : parts-package.Package → Type 0} → ((x : parts-package.Package) → Answers x → n ≡ x.wtxids) → MatchOption p (n ≡ 0) Answers
-      → (ws : List ℕ) → hashes_of n ws ≡ wtxids_for (package_of ws p)
+      → (ws : List ℕ) → hashes_of n ws ≡ wtxids_of (package_of ws p)
   wtxids-are f m ws = by p f m
     where
       by : (p : Maybe parts-package.Package) {n : ℕ} {Answers : parts-package.Package → Type 0} → ((x : parts-package.Package) → Answers x → n ≡ x.wtxids)
-          → MatchOption p (n ≡ 0) Answers → hashes_of n ws ≡ wtxids_for (package_of ws p)
+          → MatchOption p (n ≡ 0) Answers → hashes_of n ws ≡ wtxids_of (package_of ws p)
       by None f e = rw e (no-hashes ws)
       by (Some x) f a = ap (λ (n : ℕ). hashes_of n ws) (f x a)
 
@@ -76,17 +75,17 @@ row_made r c f eo ed e =
 abbrev pub place_of : List ℕ → List ℕ → line-request.Request → Place
 place_of ws ps q = record {
   hash = quad_number q.key.hash;
-  combined = combined_for (package_of ws q.packed);
-  stage = stage_for (package_of ws q.packed);
-  wtxids = wtxids_for (package_of ws q.packed);
+  combined = combined_of (package_of ws q.packed);
+  stage = stage_of true (package_of ws q.packed);
+  wtxids = wtxids_of (package_of ws q.packed);
   parents = hashes_of q.parents ps;
 }
 
 place_some : (r : Request) (i : Bool) (ws : List ℕ) (p : Maybe parts-package.Package) → (i || is_some p) ≡ true → place_for r i (package_of ws p) ≡ record {
   hash = r.key.hash;
-  combined = combined_for (package_of ws p);
-  stage = stage_for (package_of ws p);
-  wtxids = wtxids_for (package_of ws p);
+  combined = combined_of (package_of ws p);
+  stage = stage_of true (package_of ws p);
+  wtxids = wtxids_of (package_of ws p);
   parents = r.parents;
 } ∷ []
 place_some r true ws (Some p) g = refl
@@ -126,7 +125,7 @@ module _ {b : List ℕ} (ws ps : List ℕ) (q : line-request.Request) (z : Place
   pub one_more_lem : held_places_in b < places_in b
   one_more_lem = omega (arith, z.room, ap length (place_is ws ps q g))
 
-  pub few_wtxids : {n : ℕ} → hashes_of n ws ≡ wtxids_for (package_of ws q.packed) → n ≤ list_most
+  pub few_wtxids : {n : ℕ} → hashes_of n ws ≡ wtxids_of (package_of ws q.packed) → n ≤ list_most
   few_wtxids {n} e = omega (arith, ap length e, length-recs hash_bytes (number 256) n ws, shorts.0.wtxids)
 
   pub few_parents : q.parents ≤ list_most
@@ -138,8 +137,8 @@ front_few n ws l m = omega (arith, ap length (front_hashes n ws (omega arith)), 
 -- the place behind the others
 pub placed : {b b' : List ℕ} (ws ps : List ℕ) (q : line-request.Request) (z : PlaceRoom b (request_in ws ps q))
     (g : (q.info || is_some q.packed) ≡ true) → list_room ≤ length ws → list_room ≤ length ps
-    → {x v : ℕ} (n : ℕ) → ((us : List ℕ) → x ≡ combined_for (package_of us q.packed)) → ((us : List ℕ) → v ≡ stage_for (package_of us q.packed))
-    → ((us : List ℕ) → hashes_of n us ≡ wtxids_for (package_of us q.packed))
+    → {x v : ℕ} (n : ℕ) → ((us : List ℕ) → x ≡ combined_of (package_of us q.packed)) → ((us : List ℕ) → v ≡ stage_of true (package_of us q.packed))
+    → ((us : List ℕ) → hashes_of n us ≡ wtxids_of (package_of us q.packed))
     → Appends b b' (record { hash = quad_number q.key.hash; combined = x; stage = v; wtxids = hashes_in (take (n * 32) ws); parents = hashes_in (take (q.parents * 32) ps) })
     → Turns b b' (λ f. with_places (f.places ++ places_for (request_in ws ps q)) f)
 placed {b} {b'} ws ps q z g lw lp {x} {v} n ec ev en a f h =

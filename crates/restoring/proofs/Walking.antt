@@ -18,6 +18,7 @@ use Rattle.store.specs.Flat.{Flat, head_of, row_of, rows_for, rows_of, place_for
 use Rattle.store.specs.Image.{Shows}
 use Rattle.store.proofs.Frame.{sizes, shown}
 use Rattle.store.proofs.Counts.{held-rows, places-rows}
+use Rattle.store.proofs.RowsAt.{places_with}
 use Rattle.listed_lines.specs.declared.line.Request as line-request
 use Rattle.listed_lines.specs.declared.line.Line as line-line
 use Rattle.listed_lines.specs.declared.line.Line.TheVariants.{Not as NoLine, Head as IsHead, Request as IsRequest, Candidate as IsCandidate}
@@ -79,16 +80,6 @@ same_rows ws ps q cs = alike cs
     alike [] = refl
     alike (d ∷ ds) = (λ i. one d i ∷ alike ds i)
 
-same_places : (r : Request) (cs : List Candidate) → places_for (with_candidates cs r) ≡ places_for r
-unfolding places_for
-same_places r cs = go r.info r.«package»
-  where
-    go : (i : Bool) (p : Option Package) → place_for (with_candidates cs r) i p ≡ place_for r i p
-    go true none = refl
-    go true (some p) = refl
-    go false none = refl
-    go false (some p) = refl
-
 -- the lists of a lawful request are short
 lawful-short : (r : Request) → Lawful r → Each PlaceShort (places_for r)
 unfolding places_for
@@ -123,8 +114,8 @@ module _ {text ws ps : List ℕ} {at : ℕ} {l : LineAt} (p : LineRead text at w
         lawful = a.1;
         rows = ap (λ (z : List Candidate). rows_under r z ++ rows_of q.table) d.first ∙ ap rows_of d.parts ∙ first_rows w d.table
             ∙ ap (λ (z : List Row). z ++ rows_of d.table) (same_rows ws ps x cs);
-        places = ap places_of d.parts ∙ first_places w d.table ∙ ap (λ (z : List Place). z ++ places_of d.table) (same_places (request_in ws ps x) cs);
-        short = subst (Each PlaceShort) (same_places (request_in ws ps x) cs) (lawful-short w a.0);
+        places = ap places_of d.parts ∙ first_places w d.table ∙ ap (λ (z : List Place). z ++ places_of d.table) (places_with (request_in ws ps x) cs);
+        short = subst (Each PlaceShort) (places_with (request_in ws ps x) cs) (lawful-short w a.0);
       }
   by_line (IsCandidate c) e =
       let d = after-candidate p y (candidate_in c) (ap (line_in ws ps) e) in

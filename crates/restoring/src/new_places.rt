@@ -5,9 +5,10 @@ ghost use Rattle.regions.specs.Rows.{quad_number};
 ghost use Rattle.places.specs.Places.{list_most};
 ghost use Rattle.store.specs.Flat.{places_for};
 ghost use Rattle.store.specs.Shown.{places_in, held_places_in, Shown, with_places, Turns};
-ghost use Rattle.package_stages.specs.Changes.{stage_word};
-ghost use Rattle.listed_lines.specs.Given.{list_room, hashes_of, package_of, request_in};
-ghost use Rattle.restoring.specs.Given.{Appends, stage_for, combined_for, wtxids_for, PlaceRoom};
+ghost use Rattle.package_stages.specs.Changes.{stage_word, stage_of, combined_of, wtxids_of};
+ghost use Rattle.listed_lines.specs.Given.{list_room, package_of, request_in};
+ghost use Rattle.restoring.specs.Given.{Appends, PlaceRoom};
+ghost use Rattle.reading.specs.Given.{hashes_of};
 
 use ident::HASH_BYTES;
 use listed_lines::line::Request;
@@ -43,7 +44,7 @@ fn append_place(
 
 // (No From: both types are other crates'.)
 fn stage_of(p: Option<Package>) -> Stage
-    ensures { (ws : List ℕ) → stage_word (Some result) ≡ stage_for (package_of ws p) }
+    ensures { (ws : List ℕ) → stage_word (Some result) ≡ stage_of true (package_of ws p) }
 {
     match p {
         None => Stage::Flagged,
@@ -53,13 +54,13 @@ fn stage_of(p: Option<Package>) -> Stage
 }
 
 fn combined_of(p: Option<Package>) -> regions::Quad
-    ensures { (ws : List ℕ) → quad_number result ≡ combined_for (package_of ws p) }
+    ensures { (ws : List ℕ) → quad_number result ≡ combined_of (package_of ws p) }
 {
     p.map_or(regions::Quad::ZERO, |p| p.combined)
 }
 
 fn wtxid_count(p: Option<Package>) -> usize
-    ensures { (ws : List ℕ) → hashes_of result ws ≡ wtxids_for (package_of ws p) }
+    ensures { (ws : List ℕ) → hashes_of result ws ≡ wtxids_of (package_of ws p) }
 {
     p.map_or(0, |p| p.wtxids)
 }

@@ -34,8 +34,9 @@ use Rattle.machine.specs.Listing.{
 use Rattle.machine.specs.Listing.{HeadLine, RequestLine, CandidateLine}
 use Rattle.store.specs.Gather.{kind_is, key_at, item_kind_as, candidate_at}
 use Rattle.package_stages.specs.Changes.{stage_of, wtxids_of, combined_of, has_place}
-use Rattle.saving.specs.Laid.{behind, line_text, place_texts}
-use Rattle.saving.proofs.Texts.{joined-behind, behind_both, behind-cons, behind_one}
+use Rattle.lines.specs.Text.{with_commas}
+use Rattle.lines.proofs.Commas.{joined-commas, commas_both, commas-cons, commas_one}
+use Rattle.saving.specs.Laid.{line_text, place_texts}
 
 -- ---- lines of five fields
 
@@ -58,20 +59,21 @@ candidate-line r = five (decimal r.conn) (item_field short (record { kind = item
 
 -- ---- a request's line
 
-parts : (k i m : List ℕ) (o p l : List (List ℕ)) → joined (k ∷ (o ++ (i ∷ (p ++ (l ++ (m ∷ [])))))) ++ (10 ∷ []) ≡ k ++ (behind o ++ ((44 ∷ i) ++ (behind (p ++ l) ++ ((44 ∷ m) ++ (10 ∷ [])))))
+parts : (k i m : List ℕ) (o p l : List (List ℕ)) → joined (k ∷ (o ++ (i ∷ (p ++ (l ++ (m ∷ [])))))) ++ (10 ∷ [])
+    ≡ k ++ (with_commas o ++ ((44 ∷ i) ++ (with_commas (p ++ l) ++ ((44 ∷ m) ++ (10 ∷ [])))))
 parts k i m o p l =
-    let e : behind (o ++ (i ∷ (p ++ (l ++ (m ∷ []))))) ≡ behind o ++ ((44 ∷ i) ++ (behind (p ++ l) ++ (44 ∷ m))) =
-    behind_both o (i ∷ (p ++ (l ++ (m ∷ []))))
-    ∙ ap (λ (x : List ℕ). behind o ++ x) (behind-cons i (p ++ (l ++ (m ∷ [])))
-    ∙ ap (λ (x : List ℕ). (44 ∷ i) ++ x) (ap behind (sym (append_assoc p l (m ∷ []))) ∙ behind_both (p ++ l) (m ∷ []) ∙ ap (λ (x : List ℕ). behind (p ++ l) ++ x) (behind_one m))) in
-    ap (λ (x : List ℕ). x ++ (10 ∷ [])) (joined-behind k (o ++ (i ∷ (p ++ (l ++ (m ∷ []))))) ∙ ap (λ (x : List ℕ). k ++ x) e)
-    ∙ append_assoc k (behind o ++ ((44 ∷ i) ++ (behind (p ++ l) ++ (44 ∷ m)))) (10 ∷ [])
-    ∙ ap (λ (x : List ℕ). k ++ x) (append_assoc (behind o) ((44 ∷ i) ++ (behind (p ++ l) ++ (44 ∷ m))) (10 ∷ [])
-    ∙ ap (λ (x : List ℕ). behind o ++ x) (append_assoc (44 ∷ i) (behind (p ++ l) ++ (44 ∷ m)) (10 ∷ [])
-    ∙ ap (λ (x : List ℕ). (44 ∷ i) ++ x) (append_assoc (behind (p ++ l)) (44 ∷ m) (10 ∷ []))))
+    let e : with_commas (o ++ (i ∷ (p ++ (l ++ (m ∷ []))))) ≡ with_commas o ++ ((44 ∷ i) ++ (with_commas (p ++ l) ++ (44 ∷ m))) =
+    commas_both o (i ∷ (p ++ (l ++ (m ∷ []))))
+    ∙ ap (λ (x : List ℕ). with_commas o ++ x) (commas-cons i (p ++ (l ++ (m ∷ [])))
+    ∙ ap (λ (x : List ℕ). (44 ∷ i) ++ x) (ap with_commas (sym (append_assoc p l (m ∷ []))) ∙ commas_both (p ++ l) (m ∷ []) ∙ ap (λ (x : List ℕ). with_commas (p ++ l) ++ x) (commas_one m))) in
+    ap (λ (x : List ℕ). x ++ (10 ∷ [])) (joined-commas k (o ++ (i ∷ (p ++ (l ++ (m ∷ []))))) ∙ ap (λ (x : List ℕ). k ++ x) e)
+    ∙ append_assoc k (with_commas o ++ ((44 ∷ i) ++ (with_commas (p ++ l) ++ (44 ∷ m)))) (10 ∷ [])
+    ∙ ap (λ (x : List ℕ). k ++ x) (append_assoc (with_commas o) ((44 ∷ i) ++ (with_commas (p ++ l) ++ (44 ∷ m))) (10 ∷ [])
+    ∙ ap (λ (x : List ℕ). with_commas o ++ x) (append_assoc (44 ∷ i) (with_commas (p ++ l) ++ (44 ∷ m)) (10 ∷ [])
+    ∙ ap (λ (x : List ℕ). (44 ∷ i) ++ x) (append_assoc (with_commas (p ++ l)) (44 ∷ m) (10 ∷ []))))
 
-pub request-line : (y : Request) → line_text (RequestLine (with_candidates [] y)) ≡ key_field short y.key ++ (behind (maybe_fields owner_fields y.owner) ++ ((44 ∷ bool_text y.info)
-    ++ (behind (place_texts y) ++ ((44 ∷ bool_text y.fallback) ++ (10 ∷ [])))))
+pub request-line : (y : Request) → line_text (RequestLine (with_candidates [] y)) ≡ key_field short y.key ++ (with_commas (maybe_fields owner_fields y.owner) ++ ((44 ∷ bool_text y.info)
+    ++ (with_commas (place_texts y) ++ ((44 ∷ bool_text y.fallback) ++ (10 ∷ [])))))
 unfolding line_text request_fields
 request-line y = parts (key_field short y.key) (bool_text y.info) (bool_text y.fallback) (maybe_fields owner_fields y.owner) (maybe_fields (package_fields short) y.«package»)
     (list_fields short y.parents)
@@ -92,12 +94,12 @@ unfolding numeral digit_text
 zero-text = refl
 
 -- neither flag nor package: no parents
-pub bare-place : (y : Request) → Lawful y → stage_of y.info y.«package» ≡ 0 → behind (place_texts y) ≡ 44 ∷ 110 ∷ 111 ∷ 110 ∷ 101 ∷ 44 ∷ 48 ∷ []
-unfolding behind hash_fields
+pub bare-place : (y : Request) → Lawful y → stage_of y.info y.«package» ≡ 0 → with_commas (place_texts y) ≡ 44 ∷ 110 ∷ 111 ∷ 110 ∷ 101 ∷ 44 ∷ 48 ∷ []
+unfolding with_commas hash_fields
 bare-place y l e = go y.info y.«package» l.packed e
   where
     go : (i : Bool) (o : Option Package) → Packed y.key.kind y.owner i o y.parents → stage_of i o ≡ 0
-        → behind (maybe_fields (package_fields short) o ++ list_fields short y.parents) ≡ 44 ∷ 110 ∷ 111 ∷ 110 ∷ 101 ∷ 44 ∷ 48 ∷ []
+        → with_commas (maybe_fields (package_fields short) o ++ list_fields short y.parents) ≡ 44 ∷ 110 ∷ 111 ∷ 110 ∷ 101 ∷ 44 ∷ 48 ∷ []
     go i (some p) f z = absurd (omega arith)
     go true none f z = absurd (omega arith)
     go false none f z = rw (f, zero-text)
@@ -114,20 +116,20 @@ staged_kind y l e = go y.info y.«package» l.packed e
 
 -- ---- a package
 
-package-text : (p : Package) → behind (package_fields short p) ≡ (44 ∷ hexadecimal p.combined) ++ ((44 ∷ decimal (length p.wtxids)) ++ (behind (hash_fields short p.wtxids) ++
+package-text : (p : Package) → with_commas (package_fields short p) ≡ (44 ∷ hexadecimal p.combined) ++ ((44 ∷ decimal (length p.wtxids)) ++ (with_commas (hash_fields short p.wtxids) ++
     (44 ∷ bool_text p.enqueued)))
 package-text p =
     let w = hash_fields short p.wtxids in
     let b = bool_text p.enqueued in
-    behind-cons (hexadecimal p.combined) (decimal (length p.wtxids) ∷ (w ++ (b ∷ [])))
-    ∙ ap (λ (x : List ℕ). (44 ∷ hexadecimal p.combined) ++ x) (behind-cons (decimal (length p.wtxids)) (w ++ (b ∷ []))
-    ∙ ap (λ (x : List ℕ). (44 ∷ decimal (length p.wtxids)) ++ x) (behind_both w (b ∷ []) ∙ ap (λ (x : List ℕ). behind w ++ x) (behind_one b)))
+    commas-cons (hexadecimal p.combined) (decimal (length p.wtxids) ∷ (w ++ (b ∷ [])))
+    ∙ ap (λ (x : List ℕ). (44 ∷ hexadecimal p.combined) ++ x) (commas-cons (decimal (length p.wtxids)) (w ++ (b ∷ []))
+    ∙ ap (λ (x : List ℕ). (44 ∷ decimal (length p.wtxids)) ++ x) (commas_both w (b ∷ []) ∙ ap (λ (x : List ℕ). with_commas w ++ x) (commas_one b)))
 
-pub no-package : (y : Request) {stage : ℕ} → stage < 2 → stage ≡ stage_of y.info y.«package» → 44 ∷ none_text ≡ behind (maybe_fields (package_fields short) y.«package»)
+pub no-package : (y : Request) {stage : ℕ} → stage < 2 → stage ≡ stage_of y.info y.«package» → 44 ∷ none_text ≡ with_commas (maybe_fields (package_fields short) y.«package»)
 no-package y {stage} h e = go y.«package» e
   where
-    go : (o : Option Package) → stage ≡ stage_of y.info o → 44 ∷ none_text ≡ behind (maybe_fields (package_fields short) o)
-    go none z = sym (behind_one none_text)
+    go : (o : Option Package) → stage ≡ stage_of y.info o → 44 ∷ none_text ≡ with_commas (maybe_fields (package_fields short) o)
+    go none z = sym (commas_one none_text)
     go (some p) z = absurd (omega arith)
 
 enqueued_is : (b : Bool) → eqb (2 + one b) 3 ≡ b
@@ -135,7 +137,7 @@ enqueued_is true = refl
 enqueued_is false = refl
 
 pub the-package : (i : Bool) (o : Option Package) {stage c n : ℕ} → 2 ≤ stage → stage ≡ stage_of i o → c ≡ combined_of o → n ≡ length (wtxids_of o)
-    → (44 ∷ hexadecimal c) ++ ((44 ∷ decimal n) ++ (behind (hash_fields short (wtxids_of o)) ++ (44 ∷ bool_text (eqb stage 3)))) ≡ behind (maybe_fields (package_fields short) o)
+    → (44 ∷ hexadecimal c) ++ ((44 ∷ decimal n) ++ (with_commas (hash_fields short (wtxids_of o)) ++ (44 ∷ bool_text (eqb stage 3)))) ≡ with_commas (maybe_fields (package_fields short) o)
 the-package true none h e c n = absurd (omega arith)
 the-package false none h e c n = absurd (omega arith)
 the-package i (some p) h e c n = rw (c, n, e, enqueued_is p.enqueued) (sym (package-text p))

@@ -1,8 +1,8 @@
 -- Fields: what each branch of a writer lays is the field's text.
 use Prim.Native.Nat.{ℕ, ◌+◌, ◌≤◌}
-use mathlib.Core.Path.{◌≡◌, refl, sym, ap, ◌∙◌}
+use mathlib.Core.Path.{◌≡◌, refl}
 use mathlib.Core.Bool.{Bool, true, false}
-use mathlib.Core.List.{List, [], ◌∷◌, ◌++◌, append_assoc, append-nil}
+use mathlib.Core.List.{List, [], ◌∷◌}
 use mathlib.Core.Option.{Option, none, some}
 use native.Mathlib.Omega.{arith}
 use lib.ListN.{length}
@@ -11,38 +11,20 @@ use Rattle.ident.specs.declared.ItemKind.{ItemKind}
 use Rattle.ident.specs.Words.{hash_num, key_num}
 use Rattle.regions.specs.declared.Quad.{Quad}
 use Rattle.regions.specs.Rows.{quad_number}
-use Rattle.regions.proofs.Order.{number_quad}
-use Rattle.machine.specs.Text.{joined, decimal, hexadecimal, bool_text, kind_letter, item_kind_text}
+use Rattle.machine.specs.Text.{decimal, hexadecimal, bool_text, kind_letter, item_kind_text}
 use Rattle.machine.specs.Listing.{short, none_text, maybe_field, maybe_fields, key_field, item_field, owner_fields}
 use Rattle.machine.specs.State.{Owner}
 use Rattle.requests.specs.Changes.{Words}
+use Rattle.requests.proofs.HashRows.{words-number}
 use Rattle.std.specs.Prelude as rust
 use Rattle.std.specs.Prelude.{Some, None}
 use Rattle.ident.specs.declared.Key.{Key as KeyRead}
 use Rattle.ident.specs.Words.{maybe_key_num}
 use Rattle.cursors.specs.Numbers.{time_num}
-use Rattle.saving.specs.Laid.{Lays, behind}
+use Rattle.lines.specs.Text.{with_commas}
+use Rattle.lines.proofs.Commas.{commas-cons, commas_one}
+use Rattle.saving.specs.Laid.{Lays}
 use Rattle.saving.proofs.Laying.{lays_more}
-
--- ---- texts behind others
-
-pub joined-behind : (t : List ℕ) (ts : List (List ℕ)) → joined (t ∷ ts) ≡ t ++ behind ts
-unfolding joined behind
-joined-behind t [] = sym (append-nil t)
-joined-behind t (u ∷ ts) = ap (λ (l : List ℕ). t ++ (44 ∷ l)) (joined-behind u ts)
-
-pub behind_both : (ts us : List (List ℕ)) → behind (ts ++ us) ≡ behind ts ++ behind us
-unfolding behind
-behind_both [] us = refl
-behind_both (t ∷ ts) us = ap (λ (l : List ℕ). 44 ∷ (t ++ l)) (behind_both ts us) ∙ ap (λ (l : List ℕ). 44 ∷ l) (sym (append_assoc t (behind ts) (behind us)))
-
-pub behind-cons : (t : List ℕ) (ts : List (List ℕ)) → behind (t ∷ ts) ≡ (44 ∷ t) ++ behind ts
-unfolding behind
-behind-cons t ts = refl
-
-pub behind_one : (t : List ℕ) → behind (t ∷ []) ≡ 44 ∷ t
-unfolding behind
-behind_one t = ap (λ (l : List ℕ). 44 ∷ l) (append-nil t)
 
 -- ---- bools
 
@@ -56,13 +38,8 @@ module _ {s s' : List ℕ} {a r : ℕ} where
 
   -- ---- an owner
 
-  pub no-owner : {o : Option Owner} → o ≡ none → Lays s s' a (44 ∷ none_text) r → Lays s s' a (behind (maybe_fields owner_fields o)) r
-  no-owner e p = rw (e, behind_one none_text) p
-
--- ---- keys, items, hashes
-
-hash_is : {h : Hash} {q : Quad} → Words h q → quad_number q ≡ hash_num h
-hash_is {h} v = ap quad_number v.words_are ∙ number_quad (hash_num h)
+  pub no-owner : {o : Option Owner} → o ≡ none → Lays s s' a (44 ∷ none_text) r → Lays s s' a (with_commas (maybe_fields owner_fields o)) r
+  no-owner e p = rw (e, commas_one none_text) p
 
 -- ---- next poll, a cursor
 
@@ -80,18 +57,18 @@ module _ {s s₁ s₂ : List ℕ} {a e r : ℕ} where
   pub key-laid : (k : KeyRead) {q : Quad} → Words k.hash q → Lays s s₁ a (kind_letter k.kind ∷ []) e → Lays s₁ s₂ e (hexadecimal (quad_number q)) r
       → Lays s s₂ a (key_field short (key_num k)) r
   unfolding key_field
-  key-laid k v p q = lays_more p (rw (hash_is v) at q)
+  key-laid k v p q = lays_more p (rw (words-number v) at q)
 
   pub cursor-laid : {c : rust.Option KeyRead} {k : KeyRead} → c ≡ Some k → Lays s s₁ a (44 ∷ []) e → Lays s₁ s₂ e (key_field short (key_num k)) r
       → Lays s s₂ a (44 ∷ maybe_field (key_field short) (maybe_key_num c)) r
   cursor-laid f p q = rw f (lays_more p q)
 
   pub next_hash-laid : {h : Hash} {q : Quad} → Words h q → Lays s s₁ a (44 ∷ []) e → Lays s₁ s₂ e (hexadecimal (quad_number q)) r → Lays s s₂ a (44 ∷ hexadecimal (hash_num h)) r
-  next_hash-laid v p q = lays_more p (rw (hash_is v) at q)
+  next_hash-laid v p q = lays_more p (rw (words-number v) at q)
 
   pub owner-laid : {o : Option Owner} (w : Owner) → o ≡ some w → Lays s s₁ a (44 ∷ decimal w.connection) e → Lays s₁ s₂ e (44 ∷ decimal w.deadline) r
-      → Lays s s₂ a (behind (maybe_fields owner_fields o)) r
-  owner-laid w f p q = rw (f, behind-cons (decimal w.connection) (decimal w.deadline ∷ []), behind_one (decimal w.deadline)) (lays_more p q)
+      → Lays s s₂ a (with_commas (maybe_fields owner_fields o)) r
+  owner-laid w f p q = rw (f, commas-cons (decimal w.connection) (decimal w.deadline ∷ []), commas_one (decimal w.deadline)) (lays_more p q)
 
 pub item-laid : {s s₁ s₂ s₃ : List ℕ} {a e₁ e₂ r : ℕ} (k : ItemKind) (h : ℕ) → Lays s s₁ a (44 ∷ []) e₁ → Lays s₁ s₂ e₁ (item_kind_text k) e₂ → Lays s₂ s₃ e₂ (hexadecimal h) r
     → Lays s s₃ a (44 ∷ item_field short (record { kind = k; hash = h })) r

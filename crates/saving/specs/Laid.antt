@@ -11,6 +11,7 @@ use Rattle.machine.specs.Text.{decimal_digits, hash_digits, joined}
 use Rattle.machine.specs.Listing.{short, hash_fields, list_fields, maybe_fields, package_fields, Line, CandidateLine, line_fields, text_of, listing}
 use Rattle.store.specs.Gather.{candidate_at}
 use Rattle.store.specs.Image.{Writes}
+use Rattle.lines.specs.Text.{with_commas, number_room, key_room}
 
 -- ---- a text that is measured, and written where it fits
 
@@ -26,15 +27,9 @@ pub record Lays (s s' : List ℕ) (a : ℕ) (text : List ℕ) (r : ℕ) : Type 0
 abbrev pub farthest : ℕ
 farthest = 2000000000
 
--- a comma and a number; a comma and a hash; a letter and a hash
-abbrev pub number_room : ℕ
-number_room = 1 + decimal_digits
-
+-- a comma and a hash
 abbrev pub hash_room : ℕ
 hash_room = 1 + hash_digits
-
-abbrev pub key_room : ℕ
-key_room = 1 + hash_digits
 
 -- a candidate's line: three numbers, an item, a bool, four commas and a line feed
 abbrev pub candidate_room : ℕ
@@ -67,14 +62,9 @@ head_room = decimal_digits + 2 * number_room + 2 * (1 + key_room) + 1
 
 -- ---- texts
 
--- fields that follow others: each behind a comma
-unfoldable pub behind : List (List ℕ) → List ℕ
-behind [] = []
-behind (t ∷ ts) = 44 ∷ (t ++ behind ts)
-
 -- n hashes hs, each behind a comma, stand from index a on, where each answer that `Answers` allows at j is the j-th of them
 pub record LaysHashes (Answers : ℕ → Hash → Type 0) (u u' : List ℕ) (a n e : ℕ) : Type 0 where
-  pub is : (hs : List ℕ) → n ≡ length hs → ((j : ℕ) (h : Hash) → j < n → Answers j h → hash_num h ≡ get_or hs j 0) → Lays u u' a (behind (hash_fields short hs)) e
+  pub is : (hs : List ℕ) → n ≡ length hs → ((j : ℕ) (h : Hash) → j < n → Answers j h → hash_num h ≡ get_or hs j 0) → Lays u u' a (with_commas (hash_fields short hs)) e
 
 -- a line with its line feed
 unfoldable pub line_text : Line → List ℕ

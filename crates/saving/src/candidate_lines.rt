@@ -7,7 +7,8 @@ ghost use Rattle.store.specs.Gather.{kind_is, item_kind_as, candidate_at};
 ghost use Rattle.store.specs.Image.{Shows};
 ghost use Rattle.store.specs.Shown.{rows_in, Shown};
 ghost use Rattle.announcing.specs.Evicts.{part};
-ghost use Rattle.saving.specs.Laid.{Lays, farthest, key_room, candidate_room, line_text, row_texts};
+ghost use Rattle.lines.specs.Text.{key_room};
+ghost use Rattle.saving.specs.Laid.{Lays, farthest, candidate_room, line_text, row_texts};
 
 use crate::fields::{next_bool, next_number, put_hash, put_letter, put_number, put_text};
 

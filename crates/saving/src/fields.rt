@@ -12,7 +12,8 @@ ghost use Rattle.store.specs.Gather.{item_kind_as};
 ghost use Rattle.machine.specs.Text.{decimal_digits, decimal, hash_digits, hexadecimal, bool_text, item_kind_text};
 ghost use Rattle.machine.specs.Listing.{short, maybe_fields, key_field, owner_fields};
 ghost use Rattle.package_stages.specs.Changes.{owner_as};
-ghost use Rattle.saving.specs.Laid.{Lays, farthest, number_room, hash_room, key_room, owner_room, behind};
+ghost use Rattle.lines.specs.Text.{number_room, key_room, with_commas};
+ghost use Rattle.saving.specs.Laid.{Lays, farthest, hash_room, owner_room};
 
 use lines::write::{kind_letter, put_bytes};
 
@@ -106,7 +107,7 @@ pub fn next_bool(out: &mut [u8], at: usize, b: bool) -> usize
 // the closure in each, and be no shorter.)
 pub fn next_owner(out: &mut [u8], at: usize, owner: Option<package_stages::Owner>) -> usize
     requires { at + owner_room ≤ farthest }
-    ensures { (result ≤ at + owner_room) × Lays out.old out.new at (behind (maybe_fields owner_fields (owner_as owner))) result }
+    ensures { (result ≤ at + owner_room) × Lays out.old out.new at (with_commas (maybe_fields owner_fields (owner_as owner))) result }
 {
     let Some(owner) = owner else {
         return put_text(out, at, b",none");

@@ -8,7 +8,8 @@ ghost use Rattle.machine.specs.Listing.{short, maybe_field, key_field, HeadLine}
 ghost use Rattle.store.specs.Image.{Writes};
 ghost use Rattle.store.specs.Shown.{Kept};
 ghost use Rattle.cursors.specs.Numbers.{time_num};
-ghost use Rattle.saving.specs.Laid.{Lays, farthest, number_room, key_room, head_room, line_text};
+ghost use Rattle.lines.specs.Text.{number_room, key_room};
+ghost use Rattle.saving.specs.Laid.{Lays, farthest, head_room, line_text};
 
 use crate::fields::{next_number, put_key, put_number, put_text};
 

@@ -8,7 +8,8 @@ ghost use Rattle.machine.specs.Listing.{short, hash_fields, list_fields, maybe_f
 ghost use Rattle.store.specs.Shown.{held_places_in, Kept};
 ghost use Rattle.requests.specs.Changes.{Tells};
 ghost use Rattle.package_stages.specs.Changes.{stage_word, stage_of, wtxids_of, ReadAt, RequestAt};
-ghost use Rattle.saving.specs.Laid.{Lays, LaysHashes, farthest, hashes_room, package_room, parents_room, place_room, request_room, behind, place_texts, line_text};
+ghost use Rattle.lines.specs.Text.{with_commas};
+ghost use Rattle.saving.specs.Laid.{Lays, LaysHashes, farthest, hashes_room, package_room, parents_room, place_room, request_room, place_texts, line_text};
 
 use crate::fields::{next_bool, next_hash, next_number, next_owner, put_key, put_text};
 use package_stages::Stage;
@@ -30,7 +31,7 @@ fn next_hashes<F: Fn(usize) -> ident::Hash>(out: &mut [u8], at: usize, n: usize,
 // How many parents the request of the i-th place has, and those.
 fn next_parents(s: &[u8], out: &mut [u8], at: usize, i: usize) -> usize
     requires { Kept s.now × (i < held_places_in s.now) × (at + parents_room ≤ farthest) }
-    ensures { (result ≤ at + parents_room) × ReadAt s.now i (λ q. Lays out.old out.new at (behind (list_fields short q.parents)) result) }
+    ensures { (result ≤ at + parents_room) × ReadAt s.now i (λ q. Lays out.old out.new at (with_commas (list_fields short q.parents)) result) }
 {
     let n = package_stages::parents(s, i);
     let e = next_number(out, at, n as u64);
@@ -49,7 +50,7 @@ fn next_parents(s: &[u8], out: &mut [u8], at: usize, i: usize) -> usize
 fn next_package(s: &[u8], out: &mut [u8], at: usize, i: usize, stage: Stage) -> usize
     requires { Kept s.now × (i < held_places_in s.now) × (at + package_room ≤ farthest) }
     ensures { (result ≤ at + package_room)
-        × ReadAt s.now i (λ q. stage_word (Some stage) ≡ stage_of q.info q.«package» → Lays out.old out.new at (behind (maybe_fields (package_fields short) q.«package»)) result) }
+        × ReadAt s.now i (λ q. stage_word (Some stage) ≡ stage_of q.info q.«package» → Lays out.old out.new at (with_commas (maybe_fields (package_fields short) q.«package»)) result) }
 {
     if stage == Stage::Flagged {
         return put_text(out, at, b",none");
@@ -79,7 +80,7 @@ fn next_place(
     q: package_stages::Request,
 ) -> usize
     requires { Kept s.now × RequestAt s.now (key_num k) q × (at + place_room ≤ farthest) }
-    ensures { (result ≤ at + place_room) × Tells s.now (λ t. Lays out.old out.new at (behind (place_texts (the (key_num k) t))) result) }
+    ensures { (result ≤ at + place_room) × Tells s.now (λ t. Lays out.old out.new at (with_commas (place_texts (the (key_num k) t))) result) }
 {
     let Some(stage) = q.stage else {
         return put_text(out, at, b",none,0");

@@ -9,7 +9,7 @@ use Rattle.machine.specs.State as machine
 use Rattle.machine.specs.Step.{entry_answer}
 use Rattle.requests.specs.Changes.{Tells}
 use Rattle.claiming.specs.Claiming.{entry_of, entry_from}
-use Rattle.sending.specs.declared.witness.Known.{Known}
+use Rattle.sending.specs.declared.witness.Witness.{Witness}
 use Rattle.sending.specs.declared.witness.Sent.{Sent}
 
 abbrev pub is_transaction : ItemKind → Bool
@@ -19,7 +19,7 @@ is_transaction WTx = false
 is_transaction (Other n) = false
 
 -- what is known of the witness connections, which v has as words, is so
-abbrev pub Holds : List ℕ → Known → Type 0
+abbrev pub Holds : List ℕ → Witness → Type 0
 Holds v k = k.listed ≡ elem k.connection (words v)
 
 -- r is the entry a as it is sent, with what is known then
@@ -28,6 +28,6 @@ pub record Turned (s v : List ℕ) (a : machine.Entry) (r : Sent) : Type 0 where
   pub known : Holds v r.known
 
 -- the j-th entry of the bytes l as it is sent is the i-th of the answer; k is known then
-pub record PutTurned (s l : List ℕ) (j : ℕ) (v u u' : List ℕ) (i : ℕ) (k : Known) : Type 0 where
+pub record PutTurned (s l : List ℕ) (j : ℕ) (v u u' : List ℕ) (i : ℕ) (k : Witness) : Type 0 where
   pub entry : Tells s (λ t. u' ≡ splice u (entry_bytes * i) (entry_answer (for_witness (words v) t (entry_from l j))))
   pub known : Holds v k

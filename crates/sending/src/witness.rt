@@ -13,7 +13,7 @@ ghost use Rattle.sending.specs.Turned.{is_transaction, Holds, Turned, PutTurned}
 // A connection, and whether it is a witness connection. Both are always known, and are remembered from one entry to the next, since those of a connection are sent
 // together.
 #[derive(Clone, Copy)]
-pub struct Known {
+pub struct Witness {
     pub connection: u64,
     pub listed: bool,
 }
@@ -22,7 +22,7 @@ pub struct Known {
 #[derive(Clone, Copy)]
 pub struct Sent {
     pub entry: claiming::Entry,
-    pub known: Known,
+    pub known: Witness,
 }
 
 // Whether the request at k has the fallback mark.
@@ -42,14 +42,14 @@ pub fn listed(list: &[u8], connection: u64) -> bool
 }
 
 // The same, looked up if it is not known.
-fn look_up(list: &[u8], known: Known, connection: u64) -> Known
+fn look_up(list: &[u8], known: Witness, connection: u64) -> Witness
     requires { Holds list.now known }
     ensures { (result.connection ≡ connection) × (result.listed ≡ elem connection (words list.now)) }
 {
     if known.connection == connection {
         return known;
     }
-    Known {
+    Witness {
         connection,
         listed: listed(list, connection),
     }
@@ -63,7 +63,7 @@ fn is_transaction(k: ident::ItemKind) -> bool
 }
 
 // The entry as it is sent. Only a t item is looked up: any other stays what it is.
-fn for_witness(s: &[u8], witnesses: &[u8], known: Known, e: claiming::Entry) -> Sent
+fn for_witness(s: &[u8], witnesses: &[u8], known: Witness, e: claiming::Entry) -> Sent
     requires { Kept s.now × Holds witnesses.now known }
     ensures { Turned s.now witnesses.now (entry_of e) result }
 {
@@ -100,10 +100,10 @@ pub fn put_turned(
     list: &[u8],
     j: usize,
     witnesses: &[u8],
-    known: Known,
+    known: Witness,
     out: &mut [u8],
     i: usize,
-) -> Known
+) -> Witness
     requires { Kept s.now × (entry_bytes * j + entry_bytes ≤ length list.now) × (entry_bytes * i + entry_bytes ≤ length out.old) × Holds witnesses.now known }
     ensures { PutTurned s.now list.now j witnesses.now out.old out.new i result }
 {

@@ -77,9 +77,5 @@ module _ (w : List ℕ) (a : ℕ) where
   unfolding elem
   elem_end x k n h = rw (hashes_none k n h)
 
-pub zero_number : quad_number (record { w0 = 0; w1 = 0; w2 = 0; w3 = 0 }) ≡ 0
-unfolding quad_number number
-zero_number = refl
-
 -- for the tactic
 pub ruleset searched = (elem_here, elem_past, elem_end)

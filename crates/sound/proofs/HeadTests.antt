@@ -8,6 +8,7 @@ use lib.Seq.{slice, drop-cons, drop-drop, get_or-drop}
 use Rattle.words.proofs.Moves.{mid as drop-take}
 use Rattle.regions.specs.declared.Quad.{Quad}
 use Rattle.regions.specs.Rows.{read_quad, quad_number}
+use Rattle.regions.proofs.Order.{zero_number}
 use Rattle.machine.specs.Limits.{word}
 use Rattle.store.specs.FlatSound.{QuadFits}
 use Rattle.store.specs.Image.{format, head_size, head_words}
@@ -19,7 +20,7 @@ use Rattle.store.proofs.Quads.{quad-number}
 use Rattle.sound.specs.Whole.{PollPlain, CursorPlain}
 use Rattle.sound_rows.proofs.Decide.{Iff}
 use Rattle.sound_rows.proofs.Ranges.{Below, below_drop, quad_ranges}
-use Rattle.sound.proofs.Hashes.{same-quad, zero_number}
+use Rattle.sound.proofs.Hashes.{same-quad}
 
 -- ---- the words of a poll time and of a cursor
 

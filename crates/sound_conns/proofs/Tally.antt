@@ -21,10 +21,11 @@ use Rattle.store.specs.Flat.{own_bit}
 use Rattle.store.specs.FlatSound.{count_rows, owns, ConnFits}
 use Rattle.store.proofs.Counts.{rows_append}
 use Rattle.store.proofs.Certify.{own-bit}
-use Rattle.sound_conns.specs.Conns.{half, held_by, owned_by, Counts, Left, names, Rising, Named, Less, Enough, Lessened}
+use Rattle.sound_conns.specs.Conns.{half, owner_rows_by, Counts, Left, names, Rising, Named, Less, Enough, Lessened}
 use Rattle.sound_conns.specs.Conns.{Short, Lessening, Inside, NamedIn, Took, Lacks, Taking, Tallied, blank, Within, Window}
 use Rattle.sound_rows.proofs.Decide.{Iff}
 use Rattle.sound_conns.proofs.Entries.{length-names, name-entry}
+use Rattle.sound_rows.specs.Groups.{rows_by}
 
 -- ---- one counter less
 
@@ -40,10 +41,10 @@ unfolding recs
 recs_last k f i w = recs-add k f i 1 w
 
 module _ (rs : List Row) (r : Row) where
-  held_more : (x : ℕ) → held_by x (rs ++ (r ∷ [])) ≡ held_by x rs + one (eqb r.conn x)
+  held_more : (x : ℕ) → rows_by x (rs ++ (r ∷ [])) ≡ rows_by x rs + one (eqb r.conn x)
   held_more x = rows_append (λ r. eqb r.conn x) rs (r ∷ []) ∙ unfold count_rows in omega arith
 
-  owned_more : (x : ℕ) → owned_by x (rs ++ (r ∷ [])) ≡ owned_by x rs + one (eqb r.conn x && owns r)
+  owned_more : (x : ℕ) → owner_rows_by x (rs ++ (r ∷ [])) ≡ owner_rows_by x rs + one (eqb r.conn x && owns r)
   owned_more x = rows_append (λ r. eqb r.conn x && owns r) rs (r ∷ []) ∙ unfold count_rows in omega arith
 
   left_own : (c : Conn) {v v' : ℕ} → r.conn ≡ c.conn → Less (own_bit r) v v' → Left rs c v → Left (rs ++ (r ∷ [])) c v'
@@ -59,10 +60,10 @@ module _ (rs : List Row) (r : Row) where
   }
 
   -- a row that is not enough for
-  left_short : (c : Conn) {v : ℕ} → r.conn ≡ c.conn → (Enough (own_bit r) v → ⊥) → Left rs c v → held_by c.conn (rs ++ (r ∷ [])) ≤ c.held → owned_by c.conn (rs ++ (r ∷ [])) ≤ c.owned → ⊥
+  left_short : (c : Conn) {v : ℕ} → r.conn ≡ c.conn → (Enough (own_bit r) v → ⊥) → Left rs c v → rows_by c.conn (rs ++ (r ∷ [])) ≤ c.held → owner_rows_by c.conn (rs ++ (r ∷ [])) ≤ c.owned → ⊥
   left_short c e n s h o =
-      let h' : held_by c.conn rs + 1 ≤ c.held = rw (held_more c.conn, eq-eqb r.conn c.conn e) at h in
-      let o' : owned_by c.conn rs + one (owns r) ≤ c.owned = rw (owned_more c.conn, eq-eqb r.conn c.conn e) at o in
+      let h' : rows_by c.conn rs + 1 ≤ c.held = rw (held_more c.conn, eq-eqb r.conn c.conn e) at h in
+      let o' : owner_rows_by c.conn rs + one (owns r) ≤ c.owned = rw (owned_more c.conn, eq-eqb r.conn c.conn e) at o in
       n (omega (arith, s.held), omega (arith, s.owned, own-bit r))
 
 each_last : {A : Type 0} (P : A → Type 0) (l : List A) (a : A) → Each P l → P a → Each P (l ++ (a ∷ []))

@@ -7,6 +7,7 @@ use Rattle.regions.specs.Rows.{conn_size, conn_key}
 use Rattle.machine.specs.Typed.{Each}
 use Rattle.store.specs.Flat.{tally}
 use Rattle.store.specs.FlatSound.{count_rows, owns, ConnFits}
+use Rattle.sound_rows.specs.Groups.{rows_by}
 
 pub record ConnsSound (rs : List Row) (cs : List Conn) : Type 0 where
   pub tally : cs ≡ tally rs
@@ -31,16 +32,13 @@ pub record EntryStep (p c : Conn) : Type 0 where
 
 -- ---- the rows of a connection
 
-abbrev pub held_by : ℕ → List Row → ℕ
-held_by n rs = count_rows (λ r. eqb r.conn n) rs
-
-abbrev pub owned_by : ℕ → List Row → ℕ
-owned_by n rs = count_rows (λ r. eqb r.conn n && owns r) rs
+abbrev pub owner_rows_by : ℕ → List Row → ℕ
+owner_rows_by n rs = count_rows (λ r. eqb r.conn n && owns r) rs
 
 -- an entry has its connection's counts
 pub record Counts (rs : List Row) (c : Conn) : Type 0 where
-  pub held : c.held ≡ held_by c.conn rs
-  pub owned : c.owned ≡ owned_by c.conn rs
+  pub held : c.held ≡ rows_by c.conn rs
+  pub owned : c.owned ≡ owner_rows_by c.conn rs
 
 -- a counter v of an entry: in its low half how many rows the entry has left when the rows rs are taken off, in its high half how many
 -- of them may own their request
@@ -48,8 +46,8 @@ abbrev pub half : ℕ
 half = 65536
 
 pub record Left (rs : List Row) (c : Conn) (v : ℕ) : Type 0 where
-  pub held : v % half + held_by c.conn rs ≡ c.held
-  pub owned : v / half + owned_by c.conn rs ≡ c.owned
+  pub held : v % half + rows_by c.conn rs ≡ c.held
+  pub owned : v / half + owner_rows_by c.conn rs ≡ c.owned
 
 -- ---- names: the connections of the entries, in order
 

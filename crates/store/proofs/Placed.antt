@@ -30,19 +30,19 @@ use Rattle.store.proofs.Gathered.{Unplaced}
 
 -- ---- what a place leaves alone
 
-pub record Kept (q r : Request) : Type 0 where
+pub record Alike (q r : Request) : Type 0 where
   pub key : q.key ≡ r.key
   pub candidates : q.candidates ≡ r.candidates
   pub owner : q.owner ≡ r.owner
   pub fallback : q.fallback ≡ r.fallback
 
-pub dress_kept : (ps : List Place) (r : Request) → Kept (dress ps r) r
+pub dress_kept : (ps : List Place) (r : Request) → Alike (dress ps r) r
 unfolding dress
 dress_kept [] r = record { key = refl; candidates = refl; owner = refl; fallback = refl }
 dress_kept (p ∷ ps) r =
-    by_test (λ (q : Request). Kept q r) (eqb (place (wtxid p.hash)) (place r.key)) (λ e. record { key = refl; candidates = refl; owner = refl; fallback = refl }) (λ e. dress_kept ps r)
+    by_test (λ (q : Request). Alike q r) (eqb (place (wtxid p.hash)) (place r.key)) (λ e. record { key = refl; candidates = refl; owner = refl; fallback = refl }) (λ e. dress_kept ps r)
 
-rows_kept : (q r : Request) → Kept q r → rows_for q ≡ rows_for r
+rows_kept : (q r : Request) → Alike q r → rows_for q ≡ rows_for r
 unfolding rows_for
 rows_kept q r k = ap (map (row_of q)) k.candidates ∙ rows_like q r r.candidates k.key k.fallback k.owner
 

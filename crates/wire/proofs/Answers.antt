@@ -21,7 +21,7 @@ use Rattle.machine.proofs.Tests.{test}
 use Rattle.lent_lists.specs.Items.{item_bytes, item_in}
 use Rattle.lent_lists.proofs.Inventory.{Low, low-drop}
 use Rattle.wire.specs.Payload.{max_items, wire_bytes, compact_size, wires_of, payload_of, wire_item, items_of, all_plain}
-use Rattle.wire.specs.Calls.{bad_payload, short_buffer, Refused, Bytes, items_answer, items_listed, Reads, Writes}
+use Rattle.wire.specs.Calls.{bad_payload, short_buffer, PayloadRefused, PayloadBytes, items_answer, items_listed, Reads, Writes}
 use Rattle.wire.specs.Steps.{Holds}
 use Rattle.wire.proofs.Filling.{write_both}
 use Rattle.wire.proofs.Records.{length_wires, answer_back, read_fits, read_plain}
@@ -48,10 +48,10 @@ plain_by l n h = plain_from l n 0 (omega arith)
 
 -- ---- reading
 
-pub read_bad : (p u : List ℕ) → items_of p ≡ none → Reads p u u (Refused bad_payload)
+pub read_bad : (p u : List ℕ) → items_of p ≡ none → Reads p u u (PayloadRefused bad_payload)
 read_bad p u e = rw e
 
-pub read_short : {p : List ℕ} {n a : ℕ} (u : List ℕ) → Holds p n a → length u < n * item_bytes → Reads p u u (Refused short_buffer)
+pub read_short : {p : List ℕ} {n a : ℕ} (u : List ℕ) → Holds p n a → length u < n * item_bytes → Reads p u u (PayloadRefused short_buffer)
 read_short {p} {n} {a} u h l =
     let k : length (recs wire_bytes wire_item n (drop a p)) ≡ n = length-recs wire_bytes wire_item n (drop a p) in
     rw (h.items, k, lt-ltb (length u) (item_bytes * n) (omega arith))
@@ -73,10 +73,10 @@ read_done {p} {n} {a} u q h l e =
 
 -- ---- writing
 
-pub write-many : (l : List Item) (u : List ℕ) {n : ℕ} → n ≡ length l → max_items < n → Writes l u u (Refused bad_payload)
+pub write-many : (l : List Item) (u : List ℕ) {n : ℕ} → n ≡ length l → max_items < n → Writes l u u (PayloadRefused bad_payload)
 write-many l u e h = rw (lt-leb (length l) max_items (omega arith))
 
-pub write_other : (l : List Item) (u : List ℕ) {r : Bool} → r ≡ all_plain l → r ≡ false → Writes l u u (Refused bad_payload)
+pub write_other : (l : List Item) (u : List ℕ) {r : Bool} → r ≡ all_plain l → r ≡ false → Writes l u u (PayloadRefused bad_payload)
 write_other l u e f = rw (sym e ∙ f) (elim (test (leb (length l) max_items)) [ inl t ↦ rw t | inr t ↦ rw t ])
 
 -- n items, the count in a bytes: what a list that can be written needs
@@ -84,10 +84,10 @@ module _ (l : List Item) (u : List ℕ) {n a : ℕ} {r : Bool} (e : n ≡ length
   length-payload : length (payload_of l) ≡ a + n * wire_bytes
   length-payload = omega (arith, length-append (compact_size (length l)) (wires_of l), length_wires l, f ∙ ap (λ (k : ℕ). length (compact_size k)) e)
 
-  pub write-short : length u < a + n * wire_bytes → Writes l u u (Refused short_buffer)
+  pub write-short : length u < a + n * wire_bytes → Writes l u u (PayloadRefused short_buffer)
   write-short h = rw (le-leb (length l) max_items (omega arith), sym p ∙ q, lt-ltb (length u) (length (payload_of l)) (omega (arith, length-payload)))
 
-  pub write_done : {u₁ u₂ : List ℕ} → a + n * wire_bytes ≤ length u → u₁ ≡ written (compact_size n) u → u₂ ≡ splice u₁ a (wires_of l) → Writes l u u₂ (Bytes (a + n * wire_bytes))
+  pub write_done : {u₁ u₂ : List ℕ} → a + n * wire_bytes ≤ length u → u₁ ≡ written (compact_size n) u → u₂ ≡ splice u₁ a (wires_of l) → Writes l u u₂ (PayloadBytes (a + n * wire_bytes))
   write_done h g i =
       let w = write_both l u e f (omega arith) g i in
       rw (w, le-leb (length l) max_items (omega arith), sym p ∙ q, le-ltb (length u) (length (payload_of l)) (omega (arith, length-payload)), length-payload)

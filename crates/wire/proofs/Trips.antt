@@ -20,20 +20,20 @@ use Rattle.machine.proofs.Tests.{test, and_left, and_right}
 use Rattle.lent_lists.specs.Items.{item_bytes, item_in, items_in, paired, offers_in}
 use Rattle.lent_lists.proofs.Inventory.{Low}
 use Rattle.wire.specs.Payload.{max_items, payload_of, items_of, all_plain, writable}
-use Rattle.wire.specs.Calls.{bad_payload, short_buffer, Reply, Refused, Items, Bytes, Handed, items_answer, items_read, Reads, Writes}
+use Rattle.wire.specs.Calls.{bad_payload, short_buffer, PayloadReply, PayloadRefused, Items, PayloadBytes, Handed, items_answer, items_read, Reads, Writes}
 use Rattle.wire.proofs.Records.{Fits, length-answer, answer_back, list-fits}
 use Rattle.wire.proofs.Payloads.{payload_back, payload-text}
 
 -- what a call leaves
-abbrev left : Reply → Buffer → Handed
+abbrev left : PayloadReply → Buffer → Handed
 left r u = record { reply = r; buffer = u }
 
 -- no reply is two of them
 module _ {X : Type 0} where
-  not_items : {n : ℕ} {l : List Item} → Items l ≡ Refused n → X
+  not_items : {n : ℕ} {l : List Item} → Items l ≡ PayloadRefused n → X
   not_items e = let z : ◌≡◌ {A = ℕ} 0 1 = cc in absurd (omega arith)
 
-  not_bytes : {n m : ℕ} → Bytes m ≡ Refused n → X
+  not_bytes : {n m : ℕ} → PayloadBytes m ≡ PayloadRefused n → X
   not_bytes e = let z : ◌≡◌ {A = ℕ} 0 1 = cc in absurd (omega arith)
 
 -- ---- what a call that was carried out says
@@ -48,7 +48,7 @@ read_is : (o : Option (List Item)) (l : List Item) (u u' : Buffer) → left (Ite
 read_is none l u u' e = not_items (ap (λ (h : Handed). h.reply) e)
 read_is (some m) l u u' e =
     elim (test (ltb (length u) (item_bytes * length m))) [
-      | inl t ↦ let f : left (Items l) u' ≡ left (Refused short_buffer) u = rw t at e in not_items (ap (λ (h : Handed). h.reply) f)
+      | inl t ↦ let f : left (Items l) u' ≡ left (PayloadRefused short_buffer) u = rw t at e in not_items (ap (λ (h : Handed). h.reply) f)
       | inr t ↦
           let f : left (Items l) u' ≡ left (Items m) (written (items_answer m) u) = rw t at e in
           let r : Items l ≡ Items m = ap (λ (h : Handed). h.reply) f in
@@ -63,17 +63,17 @@ pub record WriteIs (l : List Item) (u u' : Buffer) (n : ℕ) : Type 0 where
   pub room : length (payload_of l) ≤ length u
   pub buffer : u' ≡ written (payload_of l) u
 
-write_is : (l : List Item) (u u' : Buffer) (n : ℕ) → Writes l u u' (Bytes n) → WriteIs l u u' n
+write_is : (l : List Item) (u u' : Buffer) (n : ℕ) → Writes l u u' (PayloadBytes n) → WriteIs l u u' n
 write_is l u u' n e =
     elim (test (writable l)) [
       | inl s ↦ elim (test (ltb (length u) (length (payload_of l)))) [
-        | inl t ↦ let f : left (Bytes n) u' ≡ left (Refused short_buffer) u = rw (s, t) at e in not_bytes (ap (λ (h : Handed). h.reply) f)
+        | inl t ↦ let f : left (PayloadBytes n) u' ≡ left (PayloadRefused short_buffer) u = rw (s, t) at e in not_bytes (ap (λ (h : Handed). h.reply) f)
         | inr t ↦
-            let f : left (Bytes n) u' ≡ left (Bytes (length (payload_of l))) (written (payload_of l) u) = rw (s, t) at e in
-            let r : Bytes n ≡ Bytes (length (payload_of l)) = ap (λ (h : Handed). h.reply) f in
+            let f : left (PayloadBytes n) u' ≡ left (PayloadBytes (length (payload_of l))) (written (payload_of l) u) = rw (s, t) at e in
+            let r : PayloadBytes n ≡ PayloadBytes (length (payload_of l)) = ap (λ (h : Handed). h.reply) f in
             record { able = s; count = cc; room = ltb-false (length u) (length (payload_of l)) t; buffer = ap (λ (h : Handed). h.buffer) f }
       ]
-      | inr s ↦ let f : left (Bytes n) u' ≡ left (Refused bad_payload) u = rw s at e in not_bytes (ap (λ (h : Handed). h.reply) f)
+      | inr s ↦ let f : left (PayloadBytes n) u' ≡ left (PayloadRefused bad_payload) u = rw s at e in not_bytes (ap (λ (h : Handed). h.reply) f)
     ]
 
 -- ---- written, then read
@@ -83,7 +83,7 @@ unfolding written
 front x u n e = take_at x (drop (length x) u) n (sym e)
 
 -- "reading its output must yield the list it was given", with room for its items
-pub written_read : (b u u' v : List ℕ) (n : ℕ) → Low b → Writes (items_in b) u u' (Bytes n) → item_bytes * length (items_in b) ≤ length v
+pub written_read : (b u u' v : List ℕ) (n : ℕ) → Low b → Writes (items_in b) u u' (PayloadBytes n) → item_bytes * length (items_in b) ≤ length v
     → Reads (take n u') v (written (items_answer (items_in b)) v) (Items (items_in b))
 written_read b u u' v n p e h =
     let l = items_in b in
@@ -114,43 +114,43 @@ module _ (p u u' : List ℕ) (l : List Item) (low : Low p) (e : Reads p u u' (It
   offered_on c = ap (λ (x : List Item). paired x (words c)) handed-on
 
   -- "writing an accepted payload must yield that payload", with room for its bytes
-  pub read_written : (v : List ℕ) → length p ≤ length v → Writes (items_in (take (item_bytes * length l) u')) v (written p v) (Bytes (length p))
+  pub read_written : (v : List ℕ) → length p ≤ length v → Writes (items_in (take (item_bytes * length l) u')) v (written p v) (PayloadBytes (length p))
   read_written v h =
       let a = payload-text p l low (read_is (items_of p) l u u' e).items in
       rw (handed-on, le-leb (length l) max_items a.few, a.plain, a.text, le-ltb (length v) (length p) h)
 
 -- ---- refusals: 10 or 7, and the buffer stays
 
-pub read_refused : (p u u' : List ℕ) (n : ℕ) → Reads p u u' (Refused n) → (u' ≡ u) × ((n ≡ bad_payload) ⊎ (n ≡ short_buffer))
+pub read_refused : (p u u' : List ℕ) (n : ℕ) → Reads p u u' (PayloadRefused n) → (u' ≡ u) × ((n ≡ bad_payload) ⊎ (n ≡ short_buffer))
 read_refused p u u' n e = by_items (items_of p) e
   where
-    by_items : (o : Option (List Item)) → left (Refused n) u' ≡ items_read o u → (u' ≡ u) × ((n ≡ bad_payload) ⊎ (n ≡ short_buffer))
-    by_items none f = let r : Refused n ≡ Refused bad_payload = ap (λ (h : Handed). h.reply) f in (ap (λ (h : Handed). h.buffer) f, inl (cc))
+    by_items : (o : Option (List Item)) → left (PayloadRefused n) u' ≡ items_read o u → (u' ≡ u) × ((n ≡ bad_payload) ⊎ (n ≡ short_buffer))
+    by_items none f = let r : PayloadRefused n ≡ PayloadRefused bad_payload = ap (λ (h : Handed). h.reply) f in (ap (λ (h : Handed). h.buffer) f, inl (cc))
     by_items (some m) f =
         elim (test (ltb (length u) (item_bytes * length m))) [
           | inl t ↦
-              let g : left (Refused n) u' ≡ left (Refused short_buffer) u = rw t at f in
-              let r : Refused n ≡ Refused short_buffer = ap (λ (h : Handed). h.reply) g in
+              let g : left (PayloadRefused n) u' ≡ left (PayloadRefused short_buffer) u = rw t at f in
+              let r : PayloadRefused n ≡ PayloadRefused short_buffer = ap (λ (h : Handed). h.reply) g in
               (ap (λ (h : Handed). h.buffer) g, inr (cc))
           | inr t ↦
-              let g : left (Refused n) u' ≡ left (Items m) (written (items_answer m) u) = rw t at f in
+              let g : left (PayloadRefused n) u' ≡ left (Items m) (written (items_answer m) u) = rw t at f in
               not_items (sym (ap (λ (h : Handed). h.reply) g))
         ]
 
-pub write-refused : (l : List Item) (u u' : List ℕ) (n : ℕ) → Writes l u u' (Refused n) → (u' ≡ u) × ((n ≡ bad_payload) ⊎ (n ≡ short_buffer))
+pub write-refused : (l : List Item) (u u' : List ℕ) (n : ℕ) → Writes l u u' (PayloadRefused n) → (u' ≡ u) × ((n ≡ bad_payload) ⊎ (n ≡ short_buffer))
 write-refused l u u' n e =
     elim (test (writable l)) [
       | inl s ↦ elim (test (ltb (length u) (length (payload_of l)))) [
         | inl t ↦
-            let g : left (Refused n) u' ≡ left (Refused short_buffer) u = rw (s, t) at e in
-            let r : Refused n ≡ Refused short_buffer = ap (λ (h : Handed). h.reply) g in
+            let g : left (PayloadRefused n) u' ≡ left (PayloadRefused short_buffer) u = rw (s, t) at e in
+            let r : PayloadRefused n ≡ PayloadRefused short_buffer = ap (λ (h : Handed). h.reply) g in
             (ap (λ (h : Handed). h.buffer) g, inr (cc))
         | inr t ↦
-            let g : left (Refused n) u' ≡ left (Bytes (length (payload_of l))) (written (payload_of l) u) = rw (s, t) at e in
+            let g : left (PayloadRefused n) u' ≡ left (PayloadBytes (length (payload_of l))) (written (payload_of l) u) = rw (s, t) at e in
             not_bytes (sym (ap (λ (h : Handed). h.reply) g))
       ]
       | inr s ↦
-          let g : left (Refused n) u' ≡ left (Refused bad_payload) u = rw s at e in
-          let r : Refused n ≡ Refused bad_payload = ap (λ (h : Handed). h.reply) g in
+          let g : left (PayloadRefused n) u' ≡ left (PayloadRefused bad_payload) u = rw s at e in
+          let r : PayloadRefused n ≡ PayloadRefused bad_payload = ap (λ (h : Handed). h.reply) g in
           (ap (λ (h : Handed). h.buffer) g, inl (cc))
     ]

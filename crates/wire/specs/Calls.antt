@@ -21,14 +21,14 @@ abbrev pub refusal_number : Refusal → ℕ
 refusal_number AnswerTooShort = short_buffer
 refusal_number BadPayload = bad_payload
 
-pub data Reply : Type 0 where
-  Refused : (number : ℕ) → Reply
-  Items : (l : List Item) → Reply
-  Bytes : (n : ℕ) → Reply
+pub data PayloadReply : Type 0 where
+  PayloadRefused : (number : ℕ) → PayloadReply
+  Items : (l : List Item) → PayloadReply
+  PayloadBytes : (n : ℕ) → PayloadReply
 
 -- what a call leaves: its reply, and the buffer
 pub record Handed : Type 0 where
-  pub reply : Reply
+  pub reply : PayloadReply
   pub buffer : Buffer
 
 -- an item in an answer buffer: a word for its type, then the hash
@@ -41,7 +41,7 @@ items_answer (i ∷ l) = item_answer i ++ items_answer l
 
 -- a refusal: "all lent bytes staying"
 abbrev pub refused : ℕ → Buffer → Handed
-refused n u = record { reply = Refused n; buffer = u }
+refused n u = record { reply = PayloadRefused n; buffer = u }
 
 -- "10 is tested before 7. The buffer's need is the items read": 40 bytes each
 abbrev pub items_read : Option (List Item) → Buffer → Handed
@@ -53,7 +53,7 @@ read_payload p u = items_read (items_of p) u
 
 -- "or the bytes written"
 abbrev pub bytes_written : List ℕ → Buffer → Handed
-bytes_written p u = if ltb (length u) (length p) then refused short_buffer u else record { reply = Bytes (length p); buffer = written p u }
+bytes_written p u = if ltb (length u) (length p) then refused short_buffer u else record { reply = PayloadBytes (length p); buffer = written p u }
 
 abbrev pub write_payload : List Item → Buffer → Handed
 write_payload l u = if writable l then bytes_written (payload_of l) u else refused bad_payload u
@@ -61,21 +61,21 @@ write_payload l u = if writable l then bytes_written (payload_of l) u else refus
 -- ---- what an answer says
 
 -- n items stand in the buffer, as the calls that are given items read them
-abbrev pub items_listed : ℕ → Buffer → Reply
+abbrev pub items_listed : ℕ → Buffer → PayloadReply
 items_listed n u = Items (recs item_bytes item_in n u)
 
-abbrev pub items_reply : Result ℕ Refusal → Buffer → Reply
-items_reply (Err r) u = Refused (refusal_number r)
+abbrev pub items_reply : Result ℕ Refusal → Buffer → PayloadReply
+items_reply (Err r) u = PayloadRefused (refusal_number r)
 items_reply (Ok n) u = items_listed n u
 
-abbrev pub bytes_reply : Result ℕ Refusal → Reply
-bytes_reply (Err r) = Refused (refusal_number r)
-bytes_reply (Ok n) = Bytes n
+abbrev pub bytes_reply : Result ℕ Refusal → PayloadReply
+bytes_reply (Err r) = PayloadRefused (refusal_number r)
+bytes_reply (Ok n) = PayloadBytes n
 
 -- ---- the contracts: p is the payload, l the list given, u the buffer before the call and u' after it
 
-abbrev pub Reads : List ℕ → Buffer → Buffer → Reply → Type 0
+abbrev pub Reads : List ℕ → Buffer → Buffer → PayloadReply → Type 0
 Reads p u u' r = record { reply = r; buffer = u' } ≡ read_payload p u
 
-abbrev pub Writes : List Item → Buffer → Buffer → Reply → Type 0
+abbrev pub Writes : List Item → Buffer → Buffer → PayloadReply → Type 0
 Writes l u u' r = record { reply = r; buffer = u' } ≡ write_payload l u

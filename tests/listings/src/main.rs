@@ -6,6 +6,8 @@
 //!
 //! A case is a line: the text's verdict (11, 12, 0 for taken) and the text in hexadecimal digits.
 
+#[path = "../../../bench/src/clock.rs"]
+mod clock;
 mod compare;
 mod damage;
 mod hand;

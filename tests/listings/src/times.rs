@@ -1,7 +1,5 @@
 //! How long saving and reading take at the largest sizes, of listings as they may come and of hostile ones, in processor time of the thread.
 
-use std::time::Duration;
-
 use oracle::calls::{Candidate, Hash, Item, Key, Kind};
 use oracle::image::image;
 use oracle::listing::{self, UNREADABLE, UNSOUND};
@@ -9,6 +7,7 @@ use oracle::random::Rng;
 use oracle::sound::{MAX_L, MAX_OF_CONNECTION, MAX_OWNED, MAX_PARENTS, MAX_Q, MAX_WTXIDS};
 use oracle::state::{Owner, Package, Request, State};
 
+use crate::clock::processor_time;
 use crate::library::Library;
 
 /// A call is made so many times; the least time counts.
@@ -80,29 +79,12 @@ fn shuffled() -> State {
     full(1, true, |number| order[number as usize])
 }
 
-/// Processor time of this thread: what others on the machine take is not in it.
-fn clock() -> Duration {
-    #[repr(C)]
-    struct Time {
-        seconds: i64,
-        nanoseconds: i64,
-    }
-    unsafe extern "C" {
-        fn clock_gettime(clock: i32, time: *mut Time) -> i32;
-    }
-    const THREAD: i32 = 3;
-    let mut time = Time { seconds: 0, nanoseconds: 0 };
-    // SAFETY: the time is lent to the call alone.
-    assert_eq!(unsafe { clock_gettime(THREAD, &mut time) }, 0);
-    Duration::new(time.seconds as u64, time.nanoseconds as u32)
-}
-
 fn milliseconds(mut call: impl FnMut() -> u64, status: u64) -> Result<f64, String> {
     let mut best = f64::INFINITY;
     for _ in 0..ROUNDS {
-        let start = clock();
+        let start = processor_time();
         let got = call();
-        best = best.min((clock() - start).as_secs_f64() * 1e3);
+        best = best.min((processor_time() - start).as_secs_f64() * 1e3);
         if got != status {
             return Err(format!("{got} and not {status}"));
         }

@@ -16,7 +16,7 @@ returns c =
     let end = c.partition_point-end in
     let below = λ (e : Entry). ltb e.candidate.connection n in
     let within = λ (e : Entry). leb e.candidate.connection n in
-    rw c.max.ensures (parted n l first.result end.result
+    rw c.max.ensures (parted n l
     (sought l n first.result below (λ e. refl) first.ensures.bound
     (λ s. IsPartitionPoint-from_clause below l first.result first.ensures.partitioned (IsPartitionedBy-ltb (λ e. e.candidate.connection) l n s) (λ x r f k. search rules)))
     (sought l (n + 1) end.result within (λ e. at_most e.candidate.connection n) end.ensures.bound

@@ -4,7 +4,7 @@ use mathlib.Core.List.{List, []}
 use Rattle.machine.specs.State.{Entry}
 use Rattle.regions.specs.Order.{Sorted}
 use Rattle.store.proofs.Bounds.{ascend-sorted}
-use Rattle.public_plans.specs.Parts.{connections_in}
+use Rattle.sending.specs.Parts.{connections_in}
 use Rattle.keeping.proofs.kept.Lists.none.Goals as goal
 
 pub of-requires : goal.of-requires
