@@ -12,7 +12,8 @@ ghost use Rattle.machine.specs.Sound.{Sound};
 ghost use Rattle.store.specs.Flat.{Flat};
 ghost use Rattle.store.specs.Image.{Shows, Writes};
 ghost use Rattle.store.specs.Shown.{rows_in, held_places_in, with_rows, Turns, Shown, Kept};
-ghost use Rattle.tearing.specs.Torn.{RowTorn, RowsTorn, PlaceTorn, PlacesTorn, Cleared};
+ghost use Rattle.tearing.specs.Places.{RowTorn};
+ghost use Rattle.tearing.specs.Torn.{RowsTorn, PlaceTorn, PlacesTorn, Cleared};
 
 use places::{AWAITING, DEAD};
 use store::rows::Window;
@@ -22,33 +23,38 @@ pub mod packaged;
 
 // ---- rows
 
-// How many rows stay of those looked at, and where the place of the last one stands, or would.
+// How many rows stay of those looked at, and the place that the pass has come to.
 #[derive(Clone, Copy)]
 struct Stay {
     rows: usize,
-    at: usize,
+    reached: packaged::Reached,
 }
 
 // The i-th row: put behind the m that stay, unless its connection owns a request with a package; ready at clock beside such an owner.
-fn tear_row(s: &mut [u8], m: usize, i: usize, clock: u64, guess: usize) -> Stay
+fn tear_row(s: &mut [u8], m: usize, i: usize, clock: u64, known: packaged::Reached) -> Stay
     requires { Shown s.old × (m ≤ i) × (i < rows_in s.old) }
-    ensures { RowTorn s.old s.new clock m i result.rows }
+    ensures { RowTorn s.old s.new clock m i result.rows known result.reached }
 {
     let r = store::rows::row_at(s, i);
-    let at = match packaged::find(s, r, guess) {
-        Ok(at) => at,
-        Err(at) => {
-            announcing::dropping::keep_row(s, m, i, r);
-            return Stay { rows: m + 1, at };
-        }
-    };
+    let found = packaged::find(s, r, known);
+    let reached = found.reached;
+    if !found.packaged {
+        announcing::dropping::keep_row(s, m, i, r);
+        return Stay {
+            rows: m + 1,
+            reached,
+        };
+    }
     if r.owns() {
         idle::count_off(s, r.conn, 1);
-        return Stay { rows: m, at };
+        return Stay { rows: m, reached };
     }
     let ready = regions::Row { ready: clock, ..r };
     store::parts::set(s, m, ready);
-    Stay { rows: m + 1, at }
+    Stay {
+        rows: m + 1,
+        reached,
+    }
 }
 
 // The rows of the owners of packages go; those beside them are ready at clock.
@@ -57,9 +63,13 @@ fn tear_rows(s: &mut [u8], clock: u64)
     ensures { (st : State) → Sound st → Writes s.old st → RowsTorn s.new st clock }
 {
     let n = store::head::rows(s);
-    let mut k = Stay { rows: 0, at: 0 };
+    let first = packaged::reach(s, 0);
+    let mut k = Stay {
+        rows: 0,
+        reached: first,
+    };
     for i in 0..n {
-        k = tear_row(s, k.rows, i, clock, k.at);
+        k = tear_row(s, k.rows, i, clock, k.reached);
     }
     let rest = Window {
         from: k.rows,
