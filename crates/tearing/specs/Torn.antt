@@ -1,23 +1,22 @@
 -- teardown_package_claims: what it comes to in one pass over the table, over the rows and over the places.
-use Rattle.std.specs.Prelude.{ℕ, ◌+◌, ◌≤◌, ◌<◌, ◌≡◌, Bool, List, [], ◌∷◌, map, leb, length, get_or, set, if◌then◌else◌}
+use Rattle.std.specs.Prelude.{ℕ, ◌≡◌, Bool, List, [], ◌∷◌, leb, eqb, if◌then◌else◌}
 use Rattle.regions.specs.declared.Conn.{Conn}
 use Rattle.regions.specs.declared.Row.{Row}
 use Rattle.regions.specs.Regions.{each}
 use Rattle.regions.specs.Rows.{with_ready}
-use Rattle.places.specs.Places.{Place, with_stage}
+use Rattle.places.specs.Places.{Place}
 use Rattle.machine.specs.State.{Request, Table, State, on_table, is_some}
-use Rattle.machine.specs.Table.{at, keep, one}
+use Rattle.machine.specs.Table.{at, keep}
 use Rattle.machine.specs.Fail.{left}
 use Rattle.machine.specs.Package.{teardown}
 use Rattle.machine.specs.Sound.{Sound}
-use Rattle.store.specs.Flat.{Flat, flat_of, rows_of}
+use Rattle.store.specs.Flat.{flat_of, rows_of}
 use Rattle.store.specs.FlatSound.{owns}
 use Rattle.store.specs.Gather.{key_at}
 use Rattle.store.specs.Image.{Shows, Writes}
-use Rattle.store.specs.Shown.{with_rows, with_conns, with_places}
+use Rattle.store.specs.Shown.{with_rows, with_conns}
 use Rattle.requests.specs.Changes.{Shorn}
 use Rattle.package_stages.specs.Changes.{owner_num}
-use Rattle.package_stages.specs.Dead.{filter, live}
 use Rattle.tearing.specs.Idle.{ebbed}
 
 -- the owner of a request leaves it
@@ -64,18 +63,9 @@ RowsTorn b st now = Shorn b st (torn_rows now st.table) (torn_rows now st.table)
 abbrev pub is_package : Place → Bool
 is_package p = leb 2 p.stage
 
-abbrev pub torn_place : Place → Place
-torn_place p = if is_package p then with_stage 0 p else p
-
--- the i-th place is marked dead if it is a package's, of which there were c
-pub record PlaceTorn (b b' : List ℕ) (i c r : ℕ) : Type 0 where
-  pub most : r ≤ c + 1
-  pub count : (f : Flat) (d : Place) → Shows b f → r ≡ c + one (is_package (get_or f.places i d))
-  pub place : (f : Flat) (d : Place) → Shows b f → i < length f.places → Shows b' (with_places (set f.places i (torn_place (get_or f.places i d))) f)
-
-pub record PlacesTorn (b b' : List ℕ) (r : ℕ) : Type 0 where
-  pub count : (f : Flat) → Shows b f → r ≡ length (filter is_package f.places)
-  pub places : (f : Flat) → Shows b f → Shows b' (with_places (filter live (map torn_place f.places)) f)
+-- a flag alone; no sound state has a place of stage 0
+abbrev pub flagged : Place → Bool
+flagged p = eqb p.stage 1
 
 -- ---- the whole
 

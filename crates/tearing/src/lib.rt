@@ -1,21 +1,25 @@
 // teardown_package_claims on the bytes of a sound store (document 01, "The request machine").
 //
-// One pass over the rows takes those of the packages' owners out and readies those beside them, one over the places takes the packages
-// out. The rows come first, since the places say which keys these are. In between the bytes write rows and their tally (`Shorn`); entries of
+// The packages are counted; one pass over the rows takes those of their owners out and readies those beside them, one over the places takes the packages
+// out. The rows come before them, since the places say which keys these are. In between the bytes write rows and their tally (`Shorn`); entries of
 // the tally that lose their last row stay for as long as the rows are passed over (`Ebbs`).
 #![tactic(auto)]
 
-ghost use Rattle.std.specs.Prelude.{◌≡◌, ℕ, ◌+◌, ◌≤◌, ◌<◌, length, get_or, set};
+ghost use Rattle.std.specs.Prelude.{◌≡◌, ℕ, ◌+◌, ◌*◌, ◌≤◌, ◌<◌, length, get_or, set};
+ghost use Rattle.words.specs.Words.{words};
+ghost use Rattle.places.specs.Places.{Place, place_size, place_words};
+ghost use Rattle.package_stages.specs.Dead.{filter};
 ghost use Rattle.regions.specs.declared.Row.{Row};
 ghost use Rattle.machine.specs.State.{State};
 ghost use Rattle.machine.specs.Sound.{Sound};
 ghost use Rattle.store.specs.Flat.{Flat};
 ghost use Rattle.store.specs.Image.{Shows, Writes};
-ghost use Rattle.store.specs.Shown.{rows_in, held_places_in, with_rows, Turns, Shown, Kept};
+ghost use Rattle.store.specs.Shown.{rows_in, held_places_in, with_rows, with_places, Turns, Shown, Kept};
 ghost use Rattle.tearing.specs.Places.{RowTorn};
-ghost use Rattle.tearing.specs.Torn.{RowsTorn, PlaceTorn, PlacesTorn, Cleared};
+ghost use Rattle.tearing.specs.Torn.{RowsTorn, is_package, flagged, Cleared};
 
-use places::{AWAITING, DEAD};
+use places::{AWAITING, FLAG};
+use store::layout;
 use store::rows::Window;
 
 pub mod idle;
@@ -81,32 +85,37 @@ fn tear_rows(s: &mut [u8], clock: u64)
 
 // ---- places
 
-// Marks the i-th place, if it is a package's; answers how many these are then. (By the word of its stage, any in a shown store: a package's are those
-// from AWAITING on.)
-fn tear_place(s: &mut [u8], i: usize, c: usize) -> usize
-    requires { Shown s.old × (i < held_places_in s.old) × (c ≤ i) }
-    ensures { PlaceTorn s.old s.new i c result }
-{
-    let p = store::package_places::place_at(s, i);
-    if AWAITING <= p.stage {
-        store::package_places::set_stage(s, i, DEAD);
-        return c + 1;
-    }
-    c
-}
-
-// The places of packages go; answers how many they were.
-fn tear_places(s: &mut [u8]) -> usize
-    requires { Shown s.old }
-    ensures { PlacesTorn s.old s.new result }
+// How many places are packages'. (By the word of the stage, any in a shown store: a package's are those from AWAITING on. Here no read waits for another, as
+// those of the pass over the rows do, which finds the heads in the processor's cache.)
+fn count_packages(s: &[u8]) -> usize
+    requires { Shown s.now }
+    ensures { (f : Flat) → Shows s.now f → result ≡ length (filter is_package f.places) }
 {
     let n = store::head::held_places(s);
     let mut c = 0;
     for i in 0..n {
-        c = tear_place(s, i, c);
+        let p = store::package_places::place_at(s, i);
+        c += usize::from(AWAITING <= p.stage);
     }
-    package_stages::dead::drop_dead(s);
     c
+}
+
+// The places of packages go, and the dead: those with the flag alone stay.
+fn drop_packages(s: &mut [u8])
+    requires { Shown s.old }
+    ensures { Turns s.old s.new (λ f. with_places (filter flagged f.places) f) }
+{
+    let n = store::head::held_places(s);
+    let part = layout::places_part(s);
+    let m = regions::keep::retain::<places::Place, _>(
+        &mut s[part],
+        n,
+        |p| -> bool
+            requires { length p.now ≡ 8 * place_size }
+            ensures { (x : Place) → words p.now ≡ place_words x → result ≡ flagged x }
+        { places::read_head(p, 0).stage == FLAG },
+    );
+    words::put(s, layout::HELD_PLACES, m as u64);
 }
 
 // Every package goes, whatever its stage, and its owner leaves the request; no parents are announced. Answers how many packages these were.
@@ -114,6 +123,8 @@ pub fn teardown_package_claims(s: &mut [u8], clock: u64) -> usize
     requires { Kept s.old }
     ensures { Cleared s.old s.new result clock }
 {
+    let c = count_packages(s);
     tear_rows(s, clock);
-    tear_places(s)
+    drop_packages(s);
+    c
 }
