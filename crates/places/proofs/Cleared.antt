@@ -77,7 +77,8 @@ list_cleared hs z =
 
 -- ---- a place
 
-pub place_cleared : (p : Place) → splice (splice (place_words p) 0 (zeros (wtxids_at + 4 * min (length p.wtxids) list_most))) parents_at (zeros (4 * min (length p.parents) list_most)) ≡ zeros place_size
+pub place_cleared : (p : Place) → splice (splice (place_words p) 0 (zeros (wtxids_at + 4 * min (length p.wtxids) list_most))) parents_at (zeros (4 * min (length p.parents) list_most))
+    ≡ zeros place_size
 place_cleared p =
     let k : ℕ = 4 * min (length p.wtxids) list_most in
     let j : ℕ = 4 * min (length p.parents) list_most in

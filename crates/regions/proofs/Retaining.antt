@@ -183,7 +183,8 @@ module _ {A : Type 0} {k : ℕ} {enc : A → List ℕ} {asked : (A → Bool) →
   }
 
   -- what is behind them goes, whatever clears it
-  pub sifted-retained : {w₀ w w' : List ℕ} {n m : ℕ} → Sifted k enc asked w₀ w n m → ((L : ℕ) (xs : List A) → length xs ≡ n → Holds k enc L xs w → Holds k enc L (take m xs) w') → Retained k enc asked w₀ w' n m
+  pub sifted-retained : {w₀ w w' : List ℕ} {n m : ℕ} → Sifted k enc asked w₀ w n m
+      → ((L : ℕ) (xs : List A) → length xs ≡ n → Holds k enc L xs w → Holds k enc L (take m xs) w') → Retained k enc asked w₀ w' n m
   sifted-retained {w₀} {w} {w'} {n} {m} c t = record {
     most = c.most;
     count = λ q a L xs e h.

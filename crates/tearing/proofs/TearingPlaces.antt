@@ -39,7 +39,8 @@ unfolding filter
 counting_none b = record { less = omega arith; count = λ f h. refl }
 
 module _ {b : List ℕ} {i c : ℕ} (g : Counting b i c) where
-  pub counting_more : i < held_places_in b → (d : Place) {x : Head} → ((f : Flat) (d : Place) → Shows b f → x ≡ head_of (get_or f.places i d)) → {v : ℕ} → v ≡ one (leb 2 x.stage) → Counting b (i + 1) (c + v)
+  pub counting_more : i < held_places_in b → (d : Place) {x : Head} → ((f : Flat) (d : Place) → Shows b f → x ≡ head_of (get_or f.places i d))
+      → {v : ℕ} → v ≡ one (leb 2 x.stage) → Counting b (i + 1) (c + v)
   counting_more l d {x} r {v} e = record {
     less = omega (arith, g.less, few (leb 2 x.stage), e);
     count = λ f w.

@@ -148,7 +148,8 @@ module _ {b : List ℕ} (now m i : ℕ) {r₀ : Row} (row : Reads b i r₀) {c :
         (subst (Ebbs b' st xs) (sym less) (subst (λ (a : Row). Ebbs b' st xs (ebbed a.conn 1 cs)) q (t _ so h)));
   }
 
-  pub tear_readies : x.packaged ≡ true → (r₀.bits / 8 % 2 ≡ 1 → ⊥) → {x₀ : Row} → x₀ ≡ with_ready now r₀ → {b' : List ℕ} → Turns b b' (λ f. with_rows (set f.rows m x₀) f) → RowTorn b b' now m i (m + 1) c x.reached
+  pub tear_readies : x.packaged ≡ true → (r₀.bits / 8 % 2 ≡ 1 → ⊥) → {x₀ : Row} → x₀ ≡ with_ready now r₀ → {b' : List ℕ} → Turns b b' (λ f. with_rows (set f.rows m x₀) f)
+      → RowTorn b b' now m i (m + 1) c x.reached
   tear_readies z o {x₀} w {b'} turn = record {
     least = omega arith;
     most = omega arith;

@@ -12,7 +12,8 @@ loop-i-init c = (clearing_none (words c.args.s.now) c.args.n c.args.m c.requires
 pub loop-i-preserved : goal.loop-i-preserved
 loop-i-preserved c =
     let e = c.clear_place.auto.s in (
-      clearing_more c.loop-i.invariant.0 (omega (arith, length-words c.args.s.now, c.requires)) c.loop-i-test.true (omega (arith, length-words c.clear_place.new.s, length-words c.loop-i.s, e)) c.clear_place.ensures,
+      clearing_more c.loop-i.invariant.0 (omega (arith, length-words c.args.s.now, c.requires)) c.loop-i-test.true
+          (omega (arith, length-words c.clear_place.new.s, length-words c.loop-i.s, e)) c.clear_place.ensures,
       e ∙ c.loop-i.invariant.1,
     )
 
