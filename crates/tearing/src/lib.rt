@@ -85,8 +85,8 @@ fn tear_rows(s: &mut [u8], clock: u64)
 
 // ---- places
 
-// How many places are packages'. (By the word of the stage, any in a shown store: a package's are those from AWAITING on. Here no read waits for another, as
-// those of the pass over the rows do, which finds the heads in the processor's cache.)
+// How many places are packages'. (By the word of the stage, any in a shown store: a package's are those from AWAITING on. They are counted before the rows are
+// passed, which then finds the stages in the processor's cache: here no read waits for another.)
 fn count_packages(s: &[u8]) -> usize
     requires { Shown s.now }
     ensures { (f : Flat) → Shows s.now f → result ≡ length (filter is_package f.places) }
@@ -100,7 +100,7 @@ fn count_packages(s: &[u8]) -> usize
     c
 }
 
-// The places of packages go, and the dead: those with the flag alone stay.
+// The places of packages go, and the dead: those with the flag alone stay. (As `package_stages::dead::drop_dead`, by another test, for the reason that stands there.)
 fn drop_packages(s: &mut [u8])
     requires { Shown s.old }
     ensures { Turns s.old s.new (λ f. with_places (filter flagged f.places) f) }
