@@ -15,7 +15,7 @@ pub fn drop_dead(s: &mut [u8])
 {
     let n = store::head::held_places(s);
     let part = layout::places_part(s);
-    let m = regions::keep::retain::<places::Place, _>(
+    let m = places::clearing::retain(
         &mut s[part],
         n,
         |p| -> bool

@@ -30,7 +30,7 @@ module _ (w : List ℕ) (i : ℕ) where
   quad_at m h =
       ap (λ (a : ℕ). read_quad (drop (a + m) w)) (mul_comm i place_size) ∙ ap read_quad (sym (drop-drop m (place_size * i) w)) ∙ sym (quad-in (drop (place_size * i) w) place_size m h)
 
-  word_at : (m : ℕ) → m < place_size → get_or w (i * place_size + m) 0 ≡ get_or (take place_size (drop (place_size * i) w)) m 0
+  pub word_at : (m : ℕ) → m < place_size → get_or w (i * place_size + m) 0 ≡ get_or (take place_size (drop (place_size * i) w)) m 0
   word_at m h = rw (get_or-take place_size (drop (place_size * i) w) m 0 h, get_or-drop (place_size * i) w m 0, mul_comm place_size i)
 
   pub head_read : {hash combined : Quad} {stage wtxids parents : ℕ}

@@ -2,3 +2,4 @@ pub mod Segments
 pub mod Places
 pub mod Changes
 pub mod Columns
+pub mod Cleared

@@ -36,7 +36,7 @@ module _ (p : Place) where
   pub head-words : List ℕ
   head-words = hash_words p.hash ++ (hash_words p.combined ++ (p.stage ∷ length p.wtxids ∷ length p.parents ∷ []))
 
-  around_wtxids : place_words p ≡ head-words ++ (list_words p.wtxids ++ (list_words p.parents ++ replicate kept_size 0))
+  pub around_wtxids : place_words p ≡ head-words ++ (list_words p.wtxids ++ (list_words p.parents ++ replicate kept_size 0))
   unfolding place_words head-words
   around_wtxids = simp append_assoc
 
@@ -44,7 +44,7 @@ module _ (p : Place) where
   unfolding place_words head-words
   around_parents = simp append_assoc
 
-  length-head : length head-words ≡ wtxids_at
+  pub length-head : length head-words ≡ wtxids_at
   unfolding head-words
   length-head = simp (length-append, length-hash)
 

@@ -14,6 +14,8 @@ ghost use Rattle.places.specs.Places.{list_most, place_size, combined_at, stage_
 ghost use Rattle.places.specs.Places.{Place, blank, with_stage, with_combined, with_wtxids, with_parents, HeadAt, HashAt, Pushed};
 ghost use Rattle.places.specs.Kinds.{place_kind};
 
+pub mod clearing;
+
 // Words of a place, and where in it the parts lie.
 pub const PLACE: usize = 824;
 

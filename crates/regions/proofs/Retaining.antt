@@ -12,9 +12,9 @@ use lib.Seq.{length-take-le, take_at, take_all, take-suc, drop-drop, get_or-drop
 use Rattle.words.specs.Words.{words}
 use Rattle.words.proofs.Words.{length-words}
 use Rattle.words.proofs.Parts.{words-lent}
-use Rattle.regions.specs.Regions.{RecordLaws, Holds, Truncated, Copied, padded, each}
+use Rattle.regions.specs.Regions.{RecordLaws, Holds, Copied, padded, each}
 use Rattle.regions.proofs.Regions.{holds_at}
-use Rattle.regions.specs.Staying.{filter, Retained}
+use Rattle.regions.specs.Staying.{filter, Sifted, Retained}
 use Rattle.regions.proofs.Order.{test}
 
 -- ---- filters
@@ -35,18 +35,18 @@ module _ {A : Type 0} (p : A → Bool) where
 
 -- ---- of a list xs the first i were looked at: what passes stands at the front of ys, m of them
 
-pub record Sifted {A : Type 0} (p : A → Bool) (xs ys : List A) (i m : ℕ) : Type 0 where
+pub record Turned {A : Type 0} (p : A → Bool) (xs ys : List A) (i m : ℕ) : Type 0 where
   pub long : length ys ≡ length xs
   pub front : take m ys ≡ filter p (take i xs)
   pub rest : drop i ys ≡ drop i xs
 
-pub sifted_none : {A : Type 0} {p : A → Bool} {xs : List A} → Sifted p xs xs 0 0
+pub turned_none : {A : Type 0} {p : A → Bool} {xs : List A} → Turned p xs xs 0 0
 unfolding filter
-sifted_none = record { long = refl; front = refl; rest = refl }
+turned_none = record { long = refl; front = refl; rest = refl }
 
-module _ {A : Type 0} {p : A → Bool} {xs ys : List A} {i m : ℕ} (g : Sifted p xs ys i m) where
-  pub sifted_all : length xs ≤ i → take m ys ≡ filter p xs
-  sifted_all l = g.front ∙ ap (filter p) (take_all i xs l)
+module _ {A : Type 0} {p : A → Bool} {xs ys : List A} {i m : ℕ} (g : Turned p xs ys i m) where
+  pub turned_all : length xs ≤ i → take m ys ≡ filter p xs
+  turned_all l = g.front ∙ ap (filter p) (take_all i xs l)
 
   module _ (l : i < length xs) (k : m ≤ i) (d : A) where
     here : get_or ys i d ≡ get_or xs i d
@@ -60,8 +60,8 @@ module _ {A : Type 0} {p : A → Bool} {xs ys : List A} {i m : ℕ} (g : Sifted 
     longer : filter p (take (i + 1) xs) ≡ filter p (take i xs) ++ filter p (get_or xs i d ∷ [])
     longer = rw (add-one i, take-suc xs i d l) (filter-append p (take i xs) (get_or xs i d ∷ []))
 
-    pub sifted_stays : p (get_or ys i d) ≡ true → Sifted p xs (set ys m (get_or ys i d)) (i + 1) (m + 1)
-    sifted_stays e = record {
+    pub turned_stays : p (get_or ys i d) ≡ true → Turned p xs (set ys m (get_or ys i d)) (i + 1) (m + 1)
+    turned_stays e = record {
       long = length-set ys m (get_or ys i d) ∙ g.long;
       front =
           let x = get_or ys i d in
@@ -71,8 +71,8 @@ module _ {A : Type 0} {p : A → Bool} {xs ys : List A} {i m : ℕ} (g : Sifted 
       rest = drop-set-lt (i + 1) ys m (get_or ys i d) (omega arith) ∙ next_rest;
     }
 
-    pub sifted_goes : p (get_or ys i d) ≡ false → Sifted p xs ys (i + 1) m
-    sifted_goes e = record {
+    pub turned_goes : p (get_or ys i d) ≡ false → Turned p xs ys (i + 1) m
+    turned_goes e = record {
       long = g.long;
       front =
           let b : filter p (get_or xs i d ∷ []) ≡ [] = rw (← here) (filter_none p (get_or ys i d) e) in
@@ -110,7 +110,7 @@ module _ {A : Type 0} {k : ℕ} {enc : A → List ℕ} (laws : RecordLaws k enc)
 
 pub record Going {A : Type 0} (k : ℕ) (enc : A → List ℕ) (q : A → Bool) (L : ℕ) (xs : List A) (w : List ℕ) (i m : ℕ) : Type 0 where
   pub kept : List A
-  pub sifted : Sifted q xs kept i m
+  pub turned : Turned q xs kept i m
   pub holds : Holds k enc L kept w
 
 pub record Retaining {A : Type 0} (k : ℕ) (enc : A → List ℕ) (asked : (A → Bool) → Type 0) (w₀ w : List ℕ) (n i m : ℕ) : Type 0 where
@@ -128,17 +128,17 @@ module _ {A : Type 0} {k : ℕ} {enc : A → List ℕ} {asked : (A → Bool) →
       subst (λ (v : ℕ). Retaining k enc asked w₀ w' n i v) (sym f) (subst (λ (x : List ℕ). Retaining k enc asked w₀ x n i m) (sym e) c)
 
   pub retaining_none : (w : List ℕ) (n : ℕ) → Retaining k enc asked w w n 0 0
-  retaining_none w n = record { most = omega arith; less = omega arith; going = λ q a L xs e h. record { kept = xs; sifted = sifted_none; holds = h } }
+  retaining_none w n = record { most = omega arith; less = omega arith; going = λ q a L xs e h. record { kept = xs; turned = turned_none; holds = h } }
 
   -- a turn: the test of the i-th record answered b
   module _ {w₀ w : List ℕ} {n i m : ℕ} (c : Retaining k enc asked w₀ w n i m) (l : i < n) (b : Bool)
       (is : (q : A → Bool) → asked q → (L : ℕ) (xs : List A) (d : A) → i < length xs → Holds k enc L xs w → b ≡ q (get_or xs i d)) where
     stays_at : (q : A → Bool) (a : asked q) (L : ℕ) (xs : List A) (e : length xs ≡ n) (h : Holds k enc L xs w₀) (d : A) → b ≡ true
-        → Sifted q xs (set (c.going q a L xs e h).kept m (get_or (c.going q a L xs e h).kept i d)) (i + 1) (m + 1)
+        → Turned q xs (set (c.going q a L xs e h).kept m (get_or (c.going q a L xs e h).kept i d)) (i + 1) (m + 1)
     stays_at q a L xs e h d y =
         let g = c.going q a L xs e h in
-        let j : i < length g.kept = omega (arith, g.sifted.long) in
-        sifted_stays g.sifted (omega arith) c.less d (sym (is q a L g.kept d j g.holds) ∙ y)
+        let j : i < length g.kept = omega (arith, g.turned.long) in
+        turned_stays g.turned (omega arith) c.less d (sym (is q a L g.kept d j g.holds) ∙ y)
 
     pub retaining_moved : b ≡ true → {w' : List ℕ} → Copied k enc w w' m i → Retaining k enc asked w₀ w' n (i + 1) (m + 1)
     retaining_moved y {w'} t = record {
@@ -146,9 +146,9 @@ module _ {A : Type 0} {k : ℕ} {enc : A → List ℕ} {asked : (A → Bool) →
       less = omega (arith, c.less);
       going = λ q a L xs e h.
           let g = c.going q a L xs e h in
-          let j : i < length g.kept = omega (arith, g.sifted.long) in
+          let j : i < length g.kept = omega (arith, g.turned.long) in
           let d = some_of g.kept i j in
-          record { kept = set g.kept m (get_or g.kept i d); sifted = stays_at q a L xs e h d y; holds = t.region L g.kept d j g.holds };
+          record { kept = set g.kept m (get_or g.kept i d); turned = stays_at q a L xs e h d y; holds = t.region L g.kept d j g.holds };
     }
 
     pub retaining_stays : b ≡ true → m ≡ i → Retaining k enc asked w₀ w n (i + 1) (m + 1)
@@ -157,10 +157,10 @@ module _ {A : Type 0} {k : ℕ} {enc : A → List ℕ} {asked : (A → Bool) →
       less = omega (arith, c.less);
       going = λ q a L xs e h.
           let g = c.going q a L xs e h in
-          let d = some_of g.kept i (omega (arith, g.sifted.long)) in
+          let d = some_of g.kept i (omega (arith, g.turned.long)) in
           let x = get_or g.kept i d in
           let same : set g.kept m x ≡ g.kept = ap (λ (v : ℕ). set g.kept v x) z ∙ set-get_or g.kept i d in
-          record { kept = set g.kept m x; sifted = stays_at q a L xs e h d y; holds = subst (λ (v : List A). Holds k enc L v w) (sym same) g.holds };
+          record { kept = set g.kept m x; turned = stays_at q a L xs e h d y; holds = subst (λ (v : List A). Holds k enc L v w) (sym same) g.holds };
     }
 
     pub retaining_goes : b ≡ false → Retaining k enc asked w₀ w n (i + 1) m
@@ -169,19 +169,28 @@ module _ {A : Type 0} {k : ℕ} {enc : A → List ℕ} {asked : (A → Bool) →
       less = omega (arith, c.less);
       going = λ q a L xs e h.
           let g = c.going q a L xs e h in
-          let j : i < length g.kept = omega (arith, g.sifted.long) in
+          let j : i < length g.kept = omega (arith, g.turned.long) in
           let d = some_of g.kept i j in
-          record { kept = g.kept; sifted = sifted_goes g.sifted (omega arith) c.less d (sym (is q a L g.kept d j g.holds) ∙ y); holds = g.holds };
+          record { kept = g.kept; turned = turned_goes g.turned (omega arith) c.less d (sym (is q a L g.kept d j g.holds) ∙ y); holds = g.holds };
     }
 
-  -- what is behind them goes
-  pub retaining_end : {w₀ w w' : List ℕ} {n i m : ℕ} → Retaining k enc asked w₀ w n i m → n ≤ i → Truncated k enc w w' n m → Retained k enc asked w₀ w' n m
-  retaining_end {w₀} {w} {w'} {n} {i} {m} c l t = record {
+  pub retaining_end : {w₀ w : List ℕ} {n i m : ℕ} → Retaining k enc asked w₀ w n i m → n ≤ i → Sifted k enc asked w₀ w n m
+  retaining_end {w₀} {w} {n} {i} {m} c l = record {
     most = omega (arith, c.less, c.most);
-    count = λ q a L xs e h.
-        let g = c.going q a L xs e h in
-        sym (length-take-le m g.kept (omega (arith, g.sifted.long, c.less, c.most))) ∙ ap length (sifted_all g.sifted (omega arith));
     region = λ q a L xs e h.
         let g = c.going q a L xs e h in
-        subst (λ (x : List A). Holds k enc L x w') (sifted_all g.sifted (omega arith)) (t.region L g.kept (g.sifted.long ∙ e) g.holds);
+        record { all = g.kept; long = g.turned.long; front = turned_all g.turned (omega arith); holds = g.holds };
+  }
+
+  -- what is behind them goes, whatever clears it
+  pub sifted-retained : {w₀ w w' : List ℕ} {n m : ℕ} → Sifted k enc asked w₀ w n m
+      → ((L : ℕ) (xs : List A) → length xs ≡ n → Holds k enc L xs w → Holds k enc L (take m xs) w') → Retained k enc asked w₀ w' n m
+  sifted-retained {w₀} {w} {w'} {n} {m} c t = record {
+    most = c.most;
+    count = λ q a L xs e h.
+        let g = c.region q a L xs e h in
+        sym (length-take-le m g.all (omega (arith, g.long, c.most))) ∙ ap length g.front;
+    region = λ q a L xs e h.
+        let g = c.region q a L xs e h in
+        subst (λ (x : List A). Holds k enc L x w') g.front (t L g.all (g.long ∙ e) g.holds);
   }

@@ -14,24 +14,22 @@ use Rattle.regions.specs.declared.Conn.{Conn}
 use Rattle.regions.specs.declared.Row.{Row}
 use Rattle.regions.specs.Order.{Sorted, Bound}
 use Rattle.regions.specs.Rows.{quad_number}
-use Rattle.places.specs.declared.Head.{Head}
-use Rattle.places.specs.Places.{Place, head_of}
+use Rattle.places.specs.Places.{Place, blank}
 use Rattle.machine.specs.State.{Package, Request, State, is_some}
 use Rattle.machine.specs.Table.{at}
 use Rattle.machine.specs.Sound.{Sound}
 use Rattle.machine.proofs.Tests.{never}
-use Rattle.store.specs.Flat.{Flat, places_of}
+use Rattle.store.specs.Flat.{places_of}
 use Rattle.store.specs.FlatSound.{hash_at}
 use Rattle.store.specs.Gather.{kind_is, key_at}
-use Rattle.store.specs.Image.{Shows}
-use Rattle.store.specs.Shown.{held_places_in, Seek}
+use Rattle.store.specs.Shown.{held_places_in}
 use Rattle.store.proofs.Frame.{sizes}
-use Rattle.store.proofs.ToFlat.{flat_sound}
-use Rattle.store.proofs.Window.{places-sorted}
 use Rattle.package_stages.specs.Changes.{stage_of, has_place}
 use Rattle.package_stages.specs.Records.{place_hashes}
-use Rattle.package_stages.proofs.Seeking.{txid-stage, head-hash, head-stage, hash_at_lem, missing, tested, its-place}
-use Rattle.tearing.specs.Torn.{packaged_row, Ebbs, PackageAt}
+use Rattle.package_stages.proofs.Seeking.{txid-stage, hash_at_lem, missing, tested, its-place}
+use Rattle.tearing.specs.Torn.{packaged_row, is_package, Ebbs}
+use Rattle.tearing.specs.declared.packaged.Reached.{Reached}
+use Rattle.tearing.specs.Places.{Stands, Leads, PackageAt}
 use Rattle.tearing.proofs.TornTables.{staged}
 
 -- ---- by its neighbours
@@ -44,19 +42,16 @@ neighbours ks x i m a c s = record {
   above = λ k l h. let e = s i k l h in omega (arith, e, c (omega arith));
 }
 
-module _ {b : List ℕ} {h : ℕ} {i : ℕ} (d : Place) where
-  pub stood : i ≤ held_places_in b → ((f : Flat) → Shows b f → 0 < i → (get_or f.places (i - 1) d).hash < h) → ((f : Flat) → Shows b f → i < length f.places → h ≤ (get_or f.places i d).hash)
-      → Seek b (λ f. place_hashes f.places) (held_places_in b) h i
-  stood m a c = record {
-    most = m;
-    bound = λ f w so.
-        let z = sizes w in
-        let n = length-map f.places (λ (p : Place). p.hash) in
-        neighbours (place_hashes f.places) h i (omega arith)
-        (λ l. let e = hash_at_lem f.places (i - 1) d (omega arith) in omega (arith, a f w l))
-        (λ l. let e = hash_at_lem f.places i d (omega arith) in omega (arith, c f w (omega arith)))
-        so;
-  }
+-- a place is known, and the hash h lies between it and the one before
+pub stood : {ps : List Place} {c : Reached} {h : ℕ} → Stands ps c → (0 < c.at → quad_number c.before < h) → (c.at < length ps → h ≤ quad_number c.hash) → Sorted (place_hashes ps)
+    → Bound (place_hashes ps) h c.at
+stood {ps} {c} {h} s a b so =
+    let d = blank 0 0 in
+    let n = length-map ps (λ (p : Place). p.hash) in
+    neighbours (place_hashes ps) h c.at (omega (arith, s.most, n))
+    (λ l. let e = hash_at_lem ps (c.at - 1) d (omega (arith, s.most, l)) in omega (arith, e, a l, s.before d l))
+    (λ l. let m : c.at < length ps = omega (arith, l, n) in let e = hash_at_lem ps c.at d m in omega (arith, e, b m, s.hash d m))
+    so
 
 -- ---- what it says
 
@@ -72,31 +67,29 @@ stage-says i (some p) = staged p.enqueued
 stage-says true none = refl
 stage-says false none = refl
 
-module _ {b : List ℕ} {h : ℕ} {n i : ℕ} (k : Seek b (λ f. place_hashes f.places) n h i) where
-  bound_at : (st : State) → Sound st → {xs : List Row} (cs : List Conn) → Ebbs b st xs cs → Bound (place_hashes (places_of st.table)) h i
-  bound_at st s cs w = k.bound _ w (places-sorted 0 (places_of st.table) (flat_sound st s).places-ascend)
-
+module _ {b : List ℕ} {h : ℕ} {c : Reached} where
   -- there is no place behind
-  pub no_place : held_places_in b ≤ i → (d : Place) → PackageAt b h false
-  no_place l d st xs cs s w small = let z = sizes w in unplaced (at (wtxid h) st.table) (missing st s h small (bound_at st s cs w) d (λ m e. omega arith))
+  pub no_place : held_places_in b ≤ c.at → PackageAt b h c false
+  no_place l st xs cs s w k small = let z = sizes w in unplaced (at (wtxid h) st.table) (missing st s h small k.bound (blank 0 0) (λ m e. omega arith))
 
-  module _ {x : Head} (r : (f : Flat) (d : Place) → Shows b f → x ≡ head_of (get_or f.places i d)) (l : i < held_places_in b) (d : Place) {a : Bool} (e : a ≡ ltb h (quad_number x.hash)) where
-    placed : (st : State) → Sound st → {xs : List Row} (cs : List Conn) → Ebbs b st xs cs → h < top → not a ≡ has_place (at (wtxid h) st.table)
-    placed st s cs w small =
+  module _ (l : c.at < held_places_in b) {a : Bool} (e : a ≡ ltb h (quad_number c.hash)) where
+    placed : (st : State) → Sound st → {xs : List Row} (cs : List Conn) → Ebbs b st xs cs → Leads (places_of st.table) h c → h < top → not a ≡ has_place (at (wtxid h) st.table)
+    placed st s cs w k small =
         let z = sizes w in
-        let p = get_or (places_of st.table) i d in
-        tested st s h small (bound_at st s cs w) d (omega arith) (e ∙ ap (ltb h) (head-hash p (r _ d w)))
+        let m : c.at < length (places_of st.table) = omega arith in
+        tested st s h small k.bound (blank 0 0) m (e ∙ ap (ltb h) (k.stands.hash (blank 0 0) m))
 
     -- that place is another's
-    pub other_place : a ≡ true → PackageAt b h false
-    other_place y st xs cs s w small = unplaced (at (wtxid h) st.table) (sym (placed st s cs w small) ∙ ap not y)
+    pub other_place : a ≡ true → PackageAt b h c false
+    other_place y st xs cs s w k small = unplaced (at (wtxid h) st.table) (sym (placed st s cs w k small) ∙ ap not y)
 
-    pub its-stage : a ≡ false → PackageAt b h (leb 2 x.stage)
-    its-stage y st xs cs s w small =
+    pub its-stage : a ≡ false → PackageAt b h c c.packaged
+    its-stage y st xs cs s w k small =
+        let z = sizes w in
         let t = at (wtxid h) st.table in
-        let held : has_place t ≡ true = sym (placed st s cs w small) ∙ ap not y in
-        let p = get_or (places_of st.table) i d in
-        ap (leb 2) (head-stage p (r _ d w) ∙ ap (λ (c : Place). c.stage) (its-place st s h small (bound_at st s cs w) held d)) ∙ stage-says t.info t.«package»
+        let held : has_place t ≡ true = sym (placed st s cs w k small) ∙ ap not y in
+        let d = blank 0 0 in
+        k.stands.packaged d (omega arith) ∙ ap is_package (its-place st s h small k.bound held d) ∙ stage-says t.info t.«package»
 
 -- ---- by the row
 
@@ -119,9 +112,9 @@ module _ {b : List ℕ} (r : Row) where
       bare-stage true none z = refl
       bare-stage false none z = refl
 
-  pub wtxid-row : (r.bits % 2 ≡ 0 → ⊥) → {held : Bool} → PackageAt b (hash_at r) held
-      → (st : State) (xs : List Row) (cs : List Conn) → Sound st → Ebbs b st xs cs → hash_at r < top → held ≡ packaged_row st.table r
-  wtxid-row e p st xs cs s h small = p st xs cs s h small ∙ ap (λ (k : Key). is_some (at k st.table).«package») (sym key)
+  pub wtxid-row : (r.bits % 2 ≡ 0 → ⊥) → {c : Reached} {held : Bool} → PackageAt b (hash_at r) c held
+      → (st : State) (xs : List Row) (cs : List Conn) → Sound st → Ebbs b st xs cs → Leads (places_of st.table) (hash_at r) c → hash_at r < top → held ≡ packaged_row st.table r
+  wtxid-row e p st xs cs s h k small = p st xs cs s h k small ∙ ap (λ (k : Key). is_some (at k st.table).«package») (sym key)
     where
       key : key_at r ≡ wtxid (hash_at r)
       key = unfold key_at in ap (λ (j : Kind). record { kind = j; hash = hash_at r }) (kind-is (r.bits % 2) e)

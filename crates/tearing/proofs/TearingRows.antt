@@ -2,7 +2,7 @@
 use Prim.Native.Nat.{ℕ, ◌+◌, ◌/◌, ◌%◌, ◌≤◌, ◌<◌}
 use mathlib.Core.Path.{◌≡◌, refl, sym, ap, subst, ◌∙◌}
 use mathlib.Core.Logic.{inl, inr}
-use mathlib.Core.Bool.{Bool, true, false}
+use mathlib.Core.Bool.{true, false}
 use mathlib.Core.List.{List, [], ◌∷◌, ◌++◌, append_assoc, append-nil}
 use native.Mathlib.Nat.{add-zero}
 use native.Mathlib.Numerals.{add-one}
@@ -21,7 +21,7 @@ use Rattle.machine.specs.Sound.{Sound}
 use Rattle.machine.specs.Typed.{Each}
 use Rattle.machine.proofs.Tests.{test}
 use Rattle.store.specs.Counting.{unbump}
-use Rattle.store.specs.Flat.{Flat, own_bit, rows_of, tally}
+use Rattle.store.specs.Flat.{Flat, own_bit, rows_of, places_of, tally}
 use Rattle.store.specs.FlatSound.{hash_at, owns, RowFits}
 use Rattle.store.specs.Image.{Shows, Writes}
 use Rattle.store.specs.Shown.{rows_in, with_rows, with_conns, Light, Turns, Tallies, Shown, Kept}
@@ -35,7 +35,10 @@ use Rattle.requests.proofs.Keeping.{sized_of, light_of}
 use Rattle.requests.proofs.Shearing.{shorn_shown}
 use Rattle.package_stages.specs.Dead.{filter}
 use Rattle.tearing.specs.Idle.{busy, ebbed}
-use Rattle.tearing.specs.Torn.{packaged_row, Ebbs, torn_row, torn_rows, torn_entries, RowTorn, RowsTorn}
+use Rattle.tearing.specs.declared.packaged.Reached.{Reached}
+use Rattle.tearing.specs.declared.packaged.Found.{Found}
+use Rattle.tearing.specs.Places.{Stands, Tells, RowTorn}
+use Rattle.tearing.specs.Torn.{packaged_row, Ebbs, torn_row, torn_rows, torn_entries, RowsTorn}
 use Rattle.tearing.proofs.Ebbing.{Rising, rising-sorted, tallied_rising, tallied_busy, ebbed-rising, ebbed-long, ebbed-light, ebbed-busy}
 use Rattle.announcing.proofs.DroppingRows.{put-long, put_front, put_rest}
 use Rattle.announcing.specs.Drops.{put_at}
@@ -96,60 +99,67 @@ left_tally now t x r y cs up e = elim (test (packaged_row t r)) [
 abbrev Reads : List ℕ → ℕ → Row → Type 0
 Reads b i r = (f : Flat) (d : Row) → Shows b f → r ≡ get_or f.rows i d
 
-abbrev Finds : List ℕ → Row → Bool → Type 0
-Finds b r held = (st : State) (xs : List Row) (cs : List Conn) → Sound st → Ebbs b st xs cs → hash_at r < top → held ≡ packaged_row st.table r
+abbrev Finds : List ℕ → Row → Reached → Found → Type 0
+Finds b r c x = (st : State) (xs : List Row) (cs : List Conn) → Sound st → Ebbs b st xs cs → hash_at r < top → Stands (places_of st.table) c → Tells st r x
 
-module _ {b : List ℕ} (now m i : ℕ) {r₀ : Row} (row : Reads b i r₀) {held : Bool} (found : Finds b r₀ held) where
-  module _ (st : State) (xs : List Row) (cs : List Conn) (r : Row) (s : Sound st) (h : Ebbs b st xs cs) (e : get_or xs i r ≡ r) (small : hash_at r < top) where
+module _ {b : List ℕ} (now m i : ℕ) {r₀ : Row} (row : Reads b i r₀) {c : Reached} {x : Found} (found : Finds b r₀ c x) where
+  module _ (st : State) (xs : List Row) (cs : List Conn) (r : Row) (s : Sound st) (h : Ebbs b st xs cs) (k : Stands (places_of st.table) c) (e : get_or xs i r ≡ r) (small : hash_at r < top) where
     is_row : r₀ ≡ r
     is_row = row _ r h ∙ e
 
-    is_packaged : packaged_row st.table r ≡ held
-    is_packaged = ap (packaged_row st.table) (sym is_row) ∙ sym (found st xs cs s h (subst (λ (a : Row). hash_at a < top) (sym is_row) small))
+    told : Tells st r₀ x
+    told = found st xs cs s h (subst (λ (a : Row). hash_at a < top) (sym is_row) small) k
 
-    stays : held ≡ false → torn_row now st.table r ≡ r ∷ []
+    is_packaged : packaged_row st.table r ≡ x.packaged
+    is_packaged = ap (packaged_row st.table) (sym is_row) ∙ sym told.packaged
+
+    stays : x.packaged ≡ false → torn_row now st.table r ≡ r ∷ []
     stays z = row_stays now st.table r (is_packaged ∙ z)
 
-    goes : held ≡ true → r₀.bits / 8 % 2 ≡ 1 → torn_row now st.table r ≡ []
+    goes : x.packaged ≡ true → r₀.bits / 8 % 2 ≡ 1 → torn_row now st.table r ≡ []
     goes z o = row_goes now st.table r (is_packaged ∙ z) (ap owns (sym is_row) ∙ eq-eqb (own_bit r₀) 1 o)
 
-    readied : held ≡ true → (r₀.bits / 8 % 2 ≡ 1 → ⊥) → torn_row now st.table r ≡ with_ready now r ∷ []
+    readied : x.packaged ≡ true → (r₀.bits / 8 % 2 ≡ 1 → ⊥) → torn_row now st.table r ≡ with_ready now r ∷ []
     readied z o = row-ready now st.table r (is_packaged ∙ z) (ap owns (sym is_row) ∙ ne_eqb (own_bit r₀) 1 o)
 
-  pub tear_stays : held ≡ false → {b' : List ℕ} → Turns b b' (λ f. with_rows (set f.rows m r₀) f) → RowTorn b b' now m i (m + 1)
+  pub tear_stays : x.packaged ≡ false → {b' : List ℕ} → Turns b b' (λ f. with_rows (set f.rows m r₀) f) → RowTorn b b' now m i (m + 1) c x.reached
   tear_stays z {b'} turn = record {
     least = omega arith;
     most = omega arith;
-    count = λ st xs cs r s h e small. ap (λ (l : List Row). m + length l) (sym (stays st xs cs r s h e small z));
-    rows = λ st xs cs r s so h e small.
-        let q = is_row st xs cs r s h e small in
-        let same = entries-stay now st.table r (is_packaged st xs cs r s h e small ∙ z) cs in
-        subst (λ (l : List Row). Ebbs b' st (put_at m l xs) (torn_entries st.table r cs)) (sym (stays st xs cs r s h e small z))
+    count = λ st xs cs r s h k e small. ap (λ (l : List Row). m + length l) (sym (stays st xs cs r s h k e small z));
+    stands = λ st xs cs r s h k e small. (told st xs cs r s h k e small).stands;
+    rows = λ st xs cs r s so h k e small.
+        let q = is_row st xs cs r s h k e small in
+        let same = entries-stay now st.table r (is_packaged st xs cs r s h k e small ∙ z) cs in
+        subst (λ (l : List Row). Ebbs b' st (put_at m l xs) (torn_entries st.table r cs)) (sym (stays st xs cs r s h k e small z))
         (subst (Ebbs b' st (set xs m r)) (sym same) (subst (λ (a : Row). Ebbs b' st (set xs m a) cs) q (turn _ h)));
   }
 
-  pub tear_goes : held ≡ true → r₀.bits / 8 % 2 ≡ 1 → {b' : List ℕ} → Tallies b b' (ebbed r₀.conn 1) → RowTorn b b' now m i m
+  pub tear_goes : x.packaged ≡ true → r₀.bits / 8 % 2 ≡ 1 → {b' : List ℕ} → Tallies b b' (ebbed r₀.conn 1) → RowTorn b b' now m i m c x.reached
   tear_goes z o {b'} t = record {
     least = omega arith;
     most = omega arith;
-    count = λ st xs cs r s h e small. sym (add-zero m) ∙ ap (λ (l : List Row). m + length l) (sym (goes st xs cs r s h e small z o));
-    rows = λ st xs cs r s so h e small.
-        let q = is_row st xs cs r s h e small in
-        let less = entries_less now st.table r (is_packaged st xs cs r s h e small ∙ z) (ap owns (sym q) ∙ eq-eqb (own_bit r₀) 1 o) cs in
-        subst (λ (l : List Row). Ebbs b' st (put_at m l xs) (torn_entries st.table r cs)) (sym (goes st xs cs r s h e small z o))
+    count = λ st xs cs r s h k e small. sym (add-zero m) ∙ ap (λ (l : List Row). m + length l) (sym (goes st xs cs r s h k e small z o));
+    stands = λ st xs cs r s h k e small. (told st xs cs r s h k e small).stands;
+    rows = λ st xs cs r s so h k e small.
+        let q = is_row st xs cs r s h k e small in
+        let less = entries_less now st.table r (is_packaged st xs cs r s h k e small ∙ z) (ap owns (sym q) ∙ eq-eqb (own_bit r₀) 1 o) cs in
+        subst (λ (l : List Row). Ebbs b' st (put_at m l xs) (torn_entries st.table r cs)) (sym (goes st xs cs r s h k e small z o))
         (subst (Ebbs b' st xs) (sym less) (subst (λ (a : Row). Ebbs b' st xs (ebbed a.conn 1 cs)) q (t _ so h)));
   }
 
-  pub tear_readies : held ≡ true → (r₀.bits / 8 % 2 ≡ 1 → ⊥) → {x₀ : Row} → x₀ ≡ with_ready now r₀ → {b' : List ℕ} → Turns b b' (λ f. with_rows (set f.rows m x₀) f) → RowTorn b b' now m i (m + 1)
+  pub tear_readies : x.packaged ≡ true → (r₀.bits / 8 % 2 ≡ 1 → ⊥) → {x₀ : Row} → x₀ ≡ with_ready now r₀ → {b' : List ℕ} → Turns b b' (λ f. with_rows (set f.rows m x₀) f)
+      → RowTorn b b' now m i (m + 1) c x.reached
   tear_readies z o {x₀} w {b'} turn = record {
     least = omega arith;
     most = omega arith;
-    count = λ st xs cs r s h e small. ap (λ (l : List Row). m + length l) (sym (readied st xs cs r s h e small z o));
-    rows = λ st xs cs r s so h e small.
-        let p = is_row st xs cs r s h e small in
+    count = λ st xs cs r s h k e small. ap (λ (l : List Row). m + length l) (sym (readied st xs cs r s h k e small z o));
+    stands = λ st xs cs r s h k e small. (told st xs cs r s h k e small).stands;
+    rows = λ st xs cs r s so h k e small.
+        let p = is_row st xs cs r s h k e small in
         let q : x₀ ≡ with_ready now r = w ∙ ap (with_ready now) p in
-        let same = entries-ready now st.table r (is_packaged st xs cs r s h e small ∙ z) (ap owns (sym p) ∙ ne_eqb (own_bit r₀) 1 o) cs in
-        subst (λ (l : List Row). Ebbs b' st (put_at m l xs) (torn_entries st.table r cs)) (sym (readied st xs cs r s h e small z o))
+        let same = entries-ready now st.table r (is_packaged st xs cs r s h k e small ∙ z) (ap owns (sym p) ∙ ne_eqb (own_bit r₀) 1 o) cs in
+        subst (λ (l : List Row). Ebbs b' st (put_at m l xs) (torn_entries st.table r cs)) (sym (readied st xs cs r s h k e small z o))
         (subst (Ebbs b' st (set xs m (with_ready now r))) (sym same) (subst (λ (a : Row). Ebbs b' st (set xs m a) cs) q (turn _ h)));
   }
 
@@ -161,7 +171,7 @@ torn_few now t (r ∷ rs) = omega (arith, length-append (torn_row now t r) (each
 
 -- ---- the loop: of the first i rows, what stays stands at the front, m of them
 
-pub record Going (b : List ℕ) (st : State) (now i m : ℕ) : Type 0 where
+pub record Going (b : List ℕ) (st : State) (now i m : ℕ) (c : Reached) : Type 0 where
   pub rows : List Row
   pub long : length rows ≡ length (rows_of st.table)
   pub front : take m rows ≡ each (torn_row now st.table) (take i (rows_of st.table))
@@ -172,18 +182,19 @@ pub record Going (b : List ℕ) (st : State) (now i m : ℕ) : Type 0 where
   pub light : Each Light conns
   pub tallied : filter busy conns ≡ tally (each (torn_row now st.table) (take i (rows_of st.table)) ++ drop i (rows_of st.table))
   pub shows : Ebbs b st rows conns
+  pub stands : Stands (places_of st.table) c
 
-pub record Tearing (b₀ b : List ℕ) (now i m : ℕ) : Type 0 where
+pub record Tearing (b₀ b : List ℕ) (now i m : ℕ) (c : Reached) : Type 0 where
   pub most : i ≤ rows_in b₀
   pub less : m ≤ i
   pub size : length b ≡ length b₀
-  pub going : (st : State) → Sound st → Writes b₀ st → Going b st now i m
+  pub going : (st : State) → Sound st → Writes b₀ st → Going b st now i m c
 
-pub tearing_none : (b : List ℕ) (now : ℕ) → Tearing b b now 0 0
+pub tearing_none : (b : List ℕ) (now : ℕ) {c : Reached} → ((f : Flat) → Shows b f → Stands f.places c) → Tearing b b now 0 0 c
 unfolding each
-tearing_none b now = record { most = omega arith; less = omega arith; size = refl; going = λ st s w. begun st s w }
+tearing_none b now {c} first = record { most = omega arith; less = omega arith; size = refl; going = λ st s w. begun st s w }
   where
-    begun : (st : State) → Sound st → Writes b st → Going b st now 0 0
+    begun : (st : State) → Sound st → Writes b st → Going b st now 0 0 c
     begun st s w =
         let t = tally_tallied (rows_of st.table) in
         record {
@@ -197,9 +208,10 @@ tearing_none b now = record { most = omega arith; less = omega arith; size = ref
           light = light_of st s;
           tallied = tallied_busy 0 (tally (rows_of st.table)) t;
           shows = w;
+          stands = first _ w;
         }
 
-module _ {b₀ b : List ℕ} {now i m : ℕ} (c : Tearing b₀ b now i m) where
+module _ {b₀ b : List ℕ} {now i m : ℕ} {known : Reached} (c : Tearing b₀ b now i m known) where
   pub tearing-rows : Kept b₀ → rows_in b ≡ rows_in b₀
   tearing-rows k = let g = c.going k.state k.sound k.writes in let z = sizes k.writes in let y = sizes g.shows in omega (arith, g.long)
 
@@ -210,19 +222,19 @@ module _ {b₀ b : List ℕ} {now i m : ℕ} (c : Tearing b₀ b now i m) where
       shown g.shows
       (record { limit = z.limit; places = z.places; rows_few = omega (arith, z.rows_few, g.long); conns_few = omega (arith, z.rows_few, g.few); places_few = z.places_few }) g.light
 
-  pub tearing_more : {b' : List ℕ} {m' : ℕ} → i < rows_in b₀ → length b' ≡ length b → RowTorn b b' now m i m' → Tearing b₀ b' now (i + 1) m'
-  tearing_more {b'} {m'} l e t = record {
+  pub tearing_more : {b' : List ℕ} {m' : ℕ} {next : Reached} → i < rows_in b₀ → length b' ≡ length b → RowTorn b b' now m i m' known next → Tearing b₀ b' now (i + 1) m' next
+  tearing_more {b'} {m'} {next} l e t = record {
     most = omega arith;
     less = omega (arith, c.less, t.most);
     size = e ∙ c.size;
-    going = λ st s w. next st s w;
+    going = λ st s w. then st s w;
   }
     where
       none : Row
       none = record { hash = record { w0 = 0; w1 = 0; w2 = 0; w3 = 0 }; conn = 0; ready = 0; prio = 0; deadline = 0; bits = 0 }
 
-      next : (st : State) → Sound st → Writes b₀ st → Going b' st now (i + 1) m'
-      next st s w =
+      then : (st : State) → Sound st → Writes b₀ st → Going b' st now (i + 1) m' next
+      then st s w =
           let rs = rows_of st.table in
           let g = c.going st s w in
           let xs = g.rows in
@@ -237,7 +249,7 @@ module _ {b₀ b : List ℕ} {now i m : ℕ} (c : Tearing b₀ b now i m) where
           let small : hash_at r < top = number-top r.hash (each_at RowFits rs i none (flat_sound st s).rows_fit n).hash in
           let cs = g.conns in
           let now-are : filter busy cs ≡ tally (F ++ (r ∷ D)) = g.tallied ∙ ap (λ (x : List Row). tally (F ++ x)) split in
-          let count = t.count st xs cs r s g.shows here small in
+          let count = t.count st xs cs r s g.shows g.stands here small in
           let keep = torn_row now st.table in
           let longer : each keep (take (i + 1) rs) ≡ F ++ T =
           ap (each keep) (rw (add-one i) (take-suc rs i none n)) ∙ each_append keep (take i rs) (r ∷ []) ∙ ap (λ (x : List Row). F ++ x) (single keep r) in
@@ -255,7 +267,8 @@ module _ {b₀ b : List ℕ} {now i m : ℕ} (c : Tearing b₀ b now i m) where
             few = either (λ (ds : List Conn). length ds ≤ length rs) now st.table r cs g.few (omega (arith, ebbed-long r.conn 1 cs, g.few));
             light = either (Each Light) now st.table r cs g.light (ebbed-light r.conn 1 cs g.light);
             tallied = left_tally now st.table F r D cs g.rising now-are ∙ ap tally (sym (ap (λ (x : List Row). x ++ D) longer ∙ append_assoc F T D));
-            shows = t.rows st xs cs r s (rising-sorted 0 cs g.rising) g.shows here small;
+            shows = t.rows st xs cs r s (rising-sorted 0 cs g.rising) g.shows g.stands here small;
+            stands = t.stands st xs cs r s g.shows g.stands here small;
           }
         where
           single : (g : Row → List Row) (x : Row) → each g (x ∷ []) ≡ g x

@@ -31,9 +31,9 @@ use Rattle.store.proofs.Bits.{key_row, owns-row}
 use Rattle.store.proofs.Counts.{Distinct, DistinctIn, in_hasnt}
 use Rattle.store.proofs.Split.{places_none}
 use Rattle.package_stages.specs.Changes.{owner_num}
-use Rattle.package_stages.specs.Dead.{filter, live}
+use Rattle.package_stages.specs.Dead.{filter}
 use Rattle.package_stages.proofs.Compacting.{filter-append}
-use Rattle.tearing.specs.Torn.{quit, torn_in, torn_all, packaged_row, torn_row, torn_rows, is_package, torn_place}
+use Rattle.tearing.specs.Torn.{quit, torn_in, torn_all, packaged_row, torn_row, torn_rows, is_package, flagged}
 
 -- ---- a request that a table has at its key
 
@@ -198,16 +198,20 @@ pub staged : (b : Bool) → leb 2 (2 + one b) ≡ true
 staged true = refl
 staged false = refl
 
-package_goes : (q : Request) (i : Bool) (p : Package) → filter live (map torn_place (place_for q i (some p))) ≡ []
+unflagged : (b : Bool) → eqb (2 + one b) 1 ≡ false
+unflagged true = refl
+unflagged false = refl
+
+package_goes : (q : Request) (i : Bool) (p : Package) → filter flagged (place_for q i (some p)) ≡ []
 unfolding filter
-package_goes q i p = rw (staged p.enqueued)
+package_goes q i p = rw (unflagged p.enqueued)
 
 package-counts : (q : Request) (i : Bool) (p : Package) → length (filter is_package (place_for q i (some p))) ≡ 1
 unfolding filter
 package-counts q i p = rw (staged p.enqueued)
 
 module _ (now : ℕ) (q : Request) (l : Lawful q) where
-  place-torn : (i : Bool) (p : Option Package) → q.info ≡ i → q.«package» ≡ p → filter live (map torn_place (place_for q i p)) ≡ places_for (torn_in now q)
+  place-torn : (i : Bool) (p : Option Package) → q.info ≡ i → q.«package» ≡ p → filter flagged (place_for q i p) ≡ places_for (torn_in now q)
   unfolding filter
   place-torn i (some p) e w = package_goes q i p ∙ sym (ap (λ (x : Option Package). places_for (if is_some x then quit now q else q)) w ∙ bare_left now q q.owner refl (owned q l (ap is_some w)))
   place-torn true none e w = sym (ap (λ (x : Option Package). places_for (if is_some x then quit now q else q)) w ∙ plain true none e w)
@@ -219,7 +223,7 @@ module _ (now : ℕ) (q : Request) (l : Lawful q) where
       plain : (i : Bool) (p : Option Package) → q.info ≡ i → q.«package» ≡ p → places_for q ≡ place_for q i p
       plain i p e w = unfold places_for in (ap (λ (x : Bool). place_for q x q.«package») e ∙ ap (place_for q i) w)
 
-  places-torn : filter live (map torn_place (places_for q)) ≡ places_for (torn_in now q)
+  places-torn : filter flagged (places_for q) ≡ places_for (torn_in now q)
   unfolding places_for
   places-torn = place-torn q.info q.«package» refl refl
 
@@ -230,18 +234,14 @@ module _ (now : ℕ) (q : Request) (l : Lawful q) where
         | inr e ↦ ap (λ (b : Bool). places_for (if b then quit now q else q)) e ∙ places_none q l (sym (ap (λ (b : Bool). (if b then quit now q else q).candidates) e) ∙ z)
       ]
 
-map-append : (a b : List Place) → map torn_place (a ++ b) ≡ map torn_place a ++ map torn_place b
-map-append [] b = refl
-map-append (p ∷ a) b = ap (λ (x : List Place). torn_place p ∷ x) (map-append a b)
-
-pub places_left : (now : ℕ) (t : Table) → All Lawful t → places_of (torn_all now t) ≡ filter live (map torn_place (places_of t))
+pub places_left : (now : ℕ) (t : Table) → All Lawful t → places_of (torn_all now t) ≡ filter flagged (places_of t)
 unfolding torn_all
 places_left now [] l = unfold each filter in refl
 places_left now (q ∷ t) l =
     keep-places (torn_in now q) (torn_in now q).candidates (torn_all now t) (place_none now q l.0)
     ∙ ap (λ (x : List Place). places_for (torn_in now q) ++ x) (places_left now t l.1)
-    ∙ ap (λ (x : List Place). x ++ filter live (map torn_place (places_of t))) (sym (places-torn now q l.0))
-    ∙ sym (ap (filter live) (ap (map torn_place) first ∙ map-append (places_for q) (places_of t)) ∙ filter-append live (map torn_place (places_for q)) (map torn_place (places_of t)))
+    ∙ ap (λ (x : List Place). x ++ filter flagged (places_of t)) (sym (places-torn now q l.0))
+    ∙ sym (ap (filter flagged) first ∙ filter-append flagged (places_for q) (places_of t))
   where
     first : places_of (q ∷ t) ≡ places_for q ++ places_of t
     first = unfold each in refl

@@ -1,2 +1,3 @@
 pub mod Idle
 pub mod Torn
+pub mod Places

@@ -1,27 +1,23 @@
 -- teardown_package_claims: what it comes to in one pass over the table, over the rows and over the places.
-use Rattle.std.specs.Prelude.{ℕ, ◌+◌, ◌≤◌, ◌<◌, ◌≡◌, Bool, List, [], ◌∷◌, map, leb, length, get_or, set, if◌then◌else◌}
-use Rattle.ident.specs.Number.{top, wtxid}
+use Rattle.std.specs.Prelude.{ℕ, ◌≡◌, Bool, List, [], ◌∷◌, leb, eqb, if◌then◌else◌}
 use Rattle.regions.specs.declared.Conn.{Conn}
 use Rattle.regions.specs.declared.Row.{Row}
-use Rattle.regions.specs.Order.{Sorted}
 use Rattle.regions.specs.Regions.{each}
 use Rattle.regions.specs.Rows.{with_ready}
-use Rattle.places.specs.Places.{Place, with_stage}
+use Rattle.places.specs.Places.{Place}
 use Rattle.machine.specs.State.{Request, Table, State, on_table, is_some}
-use Rattle.machine.specs.Table.{at, keep, one}
+use Rattle.machine.specs.Table.{at, keep}
 use Rattle.machine.specs.Fail.{left}
 use Rattle.machine.specs.Package.{teardown}
 use Rattle.machine.specs.Sound.{Sound}
-use Rattle.store.specs.Flat.{Flat, flat_of, rows_of}
-use Rattle.store.specs.FlatSound.{hash_at, owns}
+use Rattle.store.specs.Flat.{flat_of, rows_of}
+use Rattle.store.specs.FlatSound.{owns}
 use Rattle.store.specs.Gather.{key_at}
 use Rattle.store.specs.Image.{Shows, Writes}
-use Rattle.store.specs.Shown.{conn_names, with_rows, with_conns, with_places}
+use Rattle.store.specs.Shown.{with_rows, with_conns}
 use Rattle.requests.specs.Changes.{Shorn}
 use Rattle.package_stages.specs.Changes.{owner_num}
-use Rattle.package_stages.specs.Dead.{filter, live}
 use Rattle.tearing.specs.Idle.{ebbed}
-use Rattle.announcing.specs.Drops.{put_at}
 
 -- the owner of a request leaves it
 abbrev pub quit : ℕ → Request → Request
@@ -44,10 +40,6 @@ packaged_row t r = is_some (at (key_at r) t).«package»
 abbrev pub Ebbs : List ℕ → State → List Row → List Conn → Type 0
 Ebbs b st xs cs = Shows b (with_conns cs (with_rows xs (flat_of st)))
 
--- r says whether the Wtxid key with the hash h has a package, where the bytes write the places of a state
-abbrev pub PackageAt : List ℕ → ℕ → Bool → Type 0
-PackageAt b h r = (st : State) (xs : List Row) (cs : List Conn) → Sound st → Ebbs b st xs cs → h < top → r ≡ is_some (at (wtxid h) st.table).«package»
-
 unfoldable pub torn_row : ℕ → Table → Row → List Row
 torn_row now t r =
     if packaged_row t r then (if owns r then [] else with_ready now r ∷ [])
@@ -62,14 +54,6 @@ torn_entries t r cs =
     if packaged_row t r then (if owns r then ebbed r.conn 1 cs else cs)
     else cs
 
--- the i-th row, r, is put at m, or goes
-pub record RowTorn (b b' : List ℕ) (now m i m' : ℕ) : Type 0 where
-  pub least : m ≤ m'
-  pub most : m' ≤ m + 1
-  pub count : (st : State) (xs : List Row) (cs : List Conn) (r : Row) → Sound st → Ebbs b st xs cs → get_or xs i r ≡ r → hash_at r < top → m' ≡ m + length (torn_row now st.table r)
-  pub rows : (st : State) (xs : List Row) (cs : List Conn) (r : Row) → Sound st → Sorted (conn_names cs) → Ebbs b st xs cs → get_or xs i r ≡ r → hash_at r < top
-      → Ebbs b' st (put_at m (torn_row now st.table r) xs) (torn_entries st.table r cs)
-
 -- the bytes write a state, but for the rows that have gone, and their tally
 abbrev pub RowsTorn : List ℕ → State → ℕ → Type 0
 RowsTorn b st now = Shorn b st (torn_rows now st.table) (torn_rows now st.table)
@@ -79,18 +63,9 @@ RowsTorn b st now = Shorn b st (torn_rows now st.table) (torn_rows now st.table)
 abbrev pub is_package : Place → Bool
 is_package p = leb 2 p.stage
 
-abbrev pub torn_place : Place → Place
-torn_place p = if is_package p then with_stage 0 p else p
-
--- the i-th place is marked dead if it is a package's, of which there were c
-pub record PlaceTorn (b b' : List ℕ) (i c r : ℕ) : Type 0 where
-  pub most : r ≤ c + 1
-  pub count : (f : Flat) (d : Place) → Shows b f → r ≡ c + one (is_package (get_or f.places i d))
-  pub place : (f : Flat) (d : Place) → Shows b f → i < length f.places → Shows b' (with_places (set f.places i (torn_place (get_or f.places i d))) f)
-
-pub record PlacesTorn (b b' : List ℕ) (r : ℕ) : Type 0 where
-  pub count : (f : Flat) → Shows b f → r ≡ length (filter is_package f.places)
-  pub places : (f : Flat) → Shows b f → Shows b' (with_places (filter live (map torn_place f.places)) f)
+-- a flag alone; no sound state has a place of stage 0
+abbrev pub flagged : Place → Bool
+flagged p = eqb p.stage 1
 
 -- ---- the whole
 

@@ -1,13 +1,17 @@
 use native.Mathlib.Omega.{arith}
 use Rattle.store.proofs.Frame.{sizes}
+use Rattle.requests.proofs.Keeping.{kept_shown}
 use Rattle.tearing.proofs.TearingRows.{tearing_none, tearing-rows, tearing-shown, tearing_more, tearing-cut, tearing_end}
 use Rattle.tearing.proofs.tear_rows.Goals as goal
 
 pub rows-n-requires : goal.rows-n-requires
 rows-n-requires c = omega (arith, sizes c.requires.writes)
 
+pub reach-first-requires : goal.reach-first-requires
+reach-first-requires c = (kept_shown c.requires, omega arith)
+
 pub loop-i-init : goal.loop-i-init
-loop-i-init c = tearing_none _ c.args.clock
+loop-i-init c = tearing_none _ c.args.clock c.reach-first.ensures.stands
 
 pub tear_row-k-requires : goal.tear_row-k-requires
 tear_row-k-requires c = (

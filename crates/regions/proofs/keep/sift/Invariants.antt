@@ -6,7 +6,7 @@ use lib.ListN.{length}
 use denote.Ref.{Bor}
 use Rattle.words.specs.Words.{words}
 use Rattle.regions.proofs.Retaining.{Retaining}
-use Rattle.regions.proofs.keep.retain.Given as goal
+use Rattle.regions.proofs.keep.sift.Given as goal
 
 abbrev pub invariant-loop-i : goal.invariant-loop-i
 invariant-loop-i g l =
