@@ -28,7 +28,7 @@ use Rattle.store.specs.Gather.{key_at}
 use Rattle.requests.specs.Changes.{Tells}
 use Rattle.announcing.specs.Enters.{Crowded}
 use Rattle.announcing.specs.Evicts.{found}
-use Rattle.announcing.specs.Falls.{no_row, VictimRows, ListedRow}
+use Rattle.announcing.specs.Falls.{no_row, ListedRow}
 use Rattle.machine.proofs.Tests.{or_left, or_right}
 use Rattle.announcing.proofs.Nobody.{none_greatest}
 use Rattle.announcing.proofs.Scanning.{none_found}
@@ -42,17 +42,23 @@ use Rattle.gathering.proofs.Deferral.{owed_not, out_same, owed_in}
 
 -- ---- the rows listed, one after the other
 
-module _ {b v : List ℕ} {m : ℕ} (h : ℕ) (st : State) (s : Sound st) (w : Writes b st) (x : VictimRows v m (rows_of st.table)) (p : ℕ → Bool) where
-  none_from : (n i : ℕ) → i + n ≤ length x.rows → ((j : ℕ) → j < i + n → p j ≡ eqb (quad_number (get_or x.rows j no_row).hash) h) → list_any p (range_with_len i n) ≡ false
-      → Each (λ (y : Row). eqb (key_at y).hash h ≡ false) (take n (drop i x.rows))
+module _ (rows : List Row) (h : ℕ) where
+  -- the i-th is at the hash
+  abbrev pub at_row : ℕ → Bool
+  at_row i = eqb (quad_number (get_or rows i no_row).hash) h
+
+  none_from : (n i : ℕ) → i + n ≤ length rows → list_any at_row (range_with_len i n) ≡ false → Each (λ (y : Row). eqb (key_at y).hash h ≡ false) (take n (drop i rows))
   unfolding key_at
-  none_from zero i l f e = tt
-  none_from (suc n) i l f e =
-      let rest = list_any p (range_with_len (i + 1) n) in
-      rw (drop-cons x.rows i no_row (omega arith)) (
-        sym (f i (omega arith)) ∙ or_left (p i) rest e,
-        rw (← add-one i) (none_from n (i + 1) (omega arith) (λ j g. f j (omega arith)) (or_right (p i) rest e)),
+  none_from zero i l e = tt
+  none_from (suc n) i l e =
+      let rest = list_any at_row (range_with_len (i + 1) n) in
+      rw (drop-cons rows i no_row (omega arith)) (
+        or_left (at_row i) rest e,
+        rw (← add-one i) (none_from n (i + 1) (omega arith) (or_right (at_row i) rest e)),
       )
+
+  pub listed_by : {n : ℕ} → n ≤ length rows → list_any at_row (range_with_len 0 n) ≡ false → Each (λ (y : Row). eqb (key_at y).hash h ≡ false) (take n rows)
+  listed_by {n} l e = none_from n 0 (omega arith) e
 
 -- ---- how it fares
 

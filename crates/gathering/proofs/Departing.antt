@@ -88,6 +88,6 @@ gone_first {b} {b'} {v} {m} {y} {j} l f q h st s g x =
     subst (λ (vs : List Row). Writes b' (on_table (cuts vs st.table) st)) (sym (up_to x (omega arith) here)) (cut-writes st s y (first_goes st s y (drop 1 x.rows) first) q h g)
 
 -- none
-pub gone_none : {b v : List ℕ} {m : ℕ} → Gone b b v m 0
+pub gone_none : {b v : List ℕ} {m d : ℕ} → d ≡ 0 → Gone b b v m d
 unfolding cuts
-gone_none st s g x = g
+gone_none e st s g x = rw e g
