@@ -49,7 +49,7 @@ strict_ranked e (x ∷ l) d s =
     ]
 
 -- no two rows are of one key and connection
-abbrev Unlike : List Row → Type 0
+abbrev pub Unlike : List Row → Type 0
 Unlike [] = Unit {0}
 Unlike (r ∷ rs) = Each (λ (x : Row). Differ (entry_at x) (entry_at r)) rs × Unlike rs
 
@@ -117,11 +117,13 @@ unlike (r ∷ rs) sm once = (differ rs sm.1 (omega (arith, once r.conn (key_at r
     differ [] s e = tt
     differ (x ∷ xs) s e = ((λ p c. omega (arith, ap one (same x s.0 p (unfold candidate_at in c)), e)), differ xs s.1 (omega (arith, e)))
 
+pub unlike_rows : (st : State) → Sound st → Unlike (rows_of st.table)
+unlike_rows st s =
+    unlike (rows_of st.table) (small-rows 0 st.table s.bounded.ordered)
+    (λ n h. omega (arith, count-rows (by_under n h) st.table, s.bounded.once n h))
+
 pub strict_rows : (st : State) → Sound st → Strict (fallen [] (rows_of st.table))
-strict_rows st s =
-    let rs = rows_of st.table in
-    strict_fallen [] rs tt (none rs) (unlike rs (small-rows 0 st.table s.bounded.ordered)
-    (λ n h. omega (arith, count-rows (by_under n h) st.table, s.bounded.once n h)))
+strict_rows st s = let rs = rows_of st.table in strict_fallen [] rs tt (none rs) (unlike_rows st s)
   where
     none : (rs : List Row) → Each (λ (r : Row). Each (Differ (entry_at r)) []) rs
     none [] = tt

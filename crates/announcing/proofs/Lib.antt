@@ -10,6 +10,7 @@ pub mod Listing
 pub mod Heads
 pub mod Falling
 pub mod Ranking
+pub mod Numbering
 pub mod Giving
 mod Pairs
 pub mod Swapping
@@ -17,5 +18,6 @@ pub mod Nobody
 pub mod Precedence
 pub mod DroppingRows
 pub mod GoneBy
+pub mod FromBehind
 pub mod GoneTogether
 pub mod Lent

@@ -13,8 +13,6 @@ use borrow.Author.Tests.{lt-leb, le-leb, eqb-false}
 use Rattle.ident.specs.Number.{top, Key, txid, wtxid}
 use Rattle.ident.proofs.Places.{place_same as place-inj}
 use Rattle.regions.specs.declared.Row.{Row}
-use Rattle.regions.specs.Rows.{row_size, row_words, read_row}
-use Rattle.regions.specs.Regions.{Found}
 use Rattle.machine.specs.Limits.{max_peer_announcements}
 use Rattle.machine.specs.State.{Candidate, Entry, State, Table, Answer, refused, limits_of, on_table}
 use Rattle.machine.specs.Table.{at, by_under, by, under, held, held_by, held_at, is_candidate}
@@ -28,7 +26,7 @@ use Rattle.store.specs.Flat.{rows_of}
 use Rattle.store.specs.Gather.{key_at, candidate_at}
 use Rattle.store.proofs.Counts.{eqb-sym}
 use Rattle.announcing.specs.Evicts.{entry_at}
-use Rattle.announcing.specs.Falls.{list_space, fallen, cuts, Foremost}
+use Rattle.announcing.specs.Falls.{no_row, fallen, cuts, Foremost, ListedRow}
 use Rattle.announcing.proofs.Entering.{fresh, cleared-sound}
 use Rattle.announcing.proofs.Giving.{first_greatest, first_goes, next_first}
 use Rattle.announcing.proofs.GoneTogether.{cuts_more, cuts-sound, cuts_left, cuts-fallen, cuts_held, cuts-count, victims_there}
@@ -190,22 +188,22 @@ module _ {b w v : List ℕ} {d m : ℕ} {st : State} {c : Candidate} (f : Owing 
 
 -- ---- one that comes in
 
-module _ {b w v : List ℕ} {d m : ℕ} {st : State} (c : Candidate) (f : Owing b w v c.connection d m st) (l : d < m) (y : Row) (found-y : Found row_size row_words v read_row d y) where
+module _ {b w v : List ℕ} {d m : ℕ} {st : State} (c : Candidate) (f : Owing b w v c.connection d m st) (l : d < m) (y : Row) (found-y : ListedRow b v m d y) where
   inside : d < length f.listed.rows
   inside = omega (arith, f.listed.count)
 
-  its-row : y ≡ get_or f.listed.rows d y
-  its-row = found-y.region list_space f.listed.rows y inside f.listed.holds
+  its-row : y ≡ get_or f.listed.rows d no_row
+  its-row = found-y st f.sound f.writes f.listed
 
   -- with it one more goes
   one_more_lem : take (d + 1) f.listed.rows ≡ take d f.listed.rows ++ (y ∷ [])
   one_more_lem =
       let s : d + 1 ≡ suc d = omega arith in
-      ap (λ (i : ℕ). take i f.listed.rows) s ∙ take-suc f.listed.rows d y inside ∙ ap (λ (z : Row). take d f.listed.rows ++ (z ∷ [])) (sym its-row)
+      ap (λ (i : ℕ). take i f.listed.rows) s ∙ take-suc f.listed.rows d no_row inside ∙ ap (λ (z : Row). take d f.listed.rows ++ (z ∷ [])) (sym its-row)
 
   here : Foremost (y ∷ drop (suc d) f.listed.rows) (rows_of (left_by f))
   here =
-      subst (λ (x : List Row). Foremost x (rows_of (left_by f))) (drop-cons f.listed.rows d y inside ∙ ap (λ (z : Row). z ∷ drop (suc d) f.listed.rows) (sym its-row))
+      subst (λ (x : List Row). Foremost x (rows_of (left_by f))) (drop-cons f.listed.rows d no_row inside ∙ ap (λ (z : Row). z ∷ drop (suc d) f.listed.rows) (sym its-row))
       (cuts_left st f.sound (take d f.listed.rows) (drop d f.listed.rows) (first f))
 
   module _ (k : Key) (small : k.hash < top) (e : Each (λ (x : Row). eqb (key_at x).hash k.hash ≡ false) (take (d + 1) f.listed.rows)) where

@@ -16,19 +16,20 @@ use Rattle.std.specs.Prelude as std
 use Rattle.std.specs.Prelude.{is_some}
 use Rattle.ident.specs.Number.{top, Key}
 use Rattle.regions.specs.declared.Row.{Row}
-use Rattle.regions.specs.Rows.{row_size, row_words, read_row, quad_number}
-use Rattle.regions.specs.Regions.{Found, Holds}
-use Rattle.machine.specs.State.{Candidate, limits_of}
+use Rattle.regions.specs.Rows.{quad_number}
+use Rattle.machine.specs.State.{Candidate, State, limits_of}
 use Rattle.machine.specs.Table.{held_at}
 use Rattle.machine.specs.Announce.{victims, greatest, at_hash, announce_keyed}
+use Rattle.machine.specs.Sound.{Sound}
 use Rattle.machine.specs.Typed.{Each}
+use Rattle.store.specs.Flat.{rows_of}
+use Rattle.store.specs.Image.{Writes}
 use Rattle.store.specs.Gather.{key_at}
 use Rattle.requests.specs.Changes.{Tells}
 use Rattle.announcing.specs.Enters.{Crowded}
 use Rattle.announcing.specs.Evicts.{found}
-use Rattle.announcing.specs.Falls.{list_space}
+use Rattle.announcing.specs.Falls.{no_row, ListedRow}
 use Rattle.machine.proofs.Tests.{or_left, or_right}
-use Rattle.announcing.proofs.Ranking.{row_in, row_there}
 use Rattle.announcing.proofs.Nobody.{none_greatest}
 use Rattle.announcing.proofs.Scanning.{none_found}
 use Rattle.announcing.proofs.GoneBy.{each_front}
@@ -41,45 +42,43 @@ use Rattle.gathering.proofs.Deferral.{owed_not, out_same, owed_in}
 
 -- ---- the rows listed, one after the other
 
--- the i-th is at the hash
-abbrev pub at_row : List ℕ → ℕ → ℕ → Bool
-at_row v h i = eqb (quad_number (row_in v i).hash) h
+module _ (rows : List Row) (h : ℕ) where
+  -- the i-th is at the hash
+  abbrev pub at_row : ℕ → Bool
+  at_row i = eqb (quad_number (get_or rows i no_row).hash) h
 
-module _ (v : List ℕ) (h : ℕ) where
-  none_from : (rows : List Row) → Holds row_size row_words list_space rows v → (n i : ℕ) → i + n ≤ list_space → i + n ≤ length rows → list_any (at_row v h) (range_with_len i n) ≡ false
-      → Each (λ (y : Row). eqb (key_at y).hash h ≡ false) (take n (drop i rows))
+  none_from : (n i : ℕ) → i + n ≤ length rows → list_any at_row (range_with_len i n) ≡ false → Each (λ (y : Row). eqb (key_at y).hash h ≡ false) (take n (drop i rows))
   unfolding key_at
-  none_from rows z zero i s l e = tt
-  none_from rows z (suc n) i s l e =
-      let x = row_in v i in
-      let rest = list_any (at_row v h) (range_with_len (i + 1) n) in
-      rw (drop-cons rows i x (omega arith)) (
-        sym (ap (λ (y : Row). eqb (quad_number y.hash) h) (row_there rows x i (omega arith) (omega arith) z)) ∙ or_left (at_row v h i) rest e,
-        rw (← add-one i) (none_from rows z n (i + 1) (omega arith) (omega arith) (or_right (at_row v h i) rest e)),
+  none_from zero i l e = tt
+  none_from (suc n) i l e =
+      let rest = list_any at_row (range_with_len (i + 1) n) in
+      rw (drop-cons rows i no_row (omega arith)) (
+        or_left (at_row i) rest e,
+        rw (← add-one i) (none_from n (i + 1) (omega arith) (or_right (at_row i) rest e)),
       )
 
-  pub listed_by : {n : ℕ} {r : Bool} → n ≤ list_space → r ≡ list_any (at_row v h) (range_with_len 0 n) → ListedAt v n h r
-  listed_by {n} s e f rows l z = none_from rows z n 0 (omega arith) (omega arith) (sym e ∙ f)
+  pub listed_by : {n : ℕ} → n ≤ length rows → list_any at_row (range_with_len 0 n) ≡ false → Each (λ (y : Row). eqb (key_at y).hash h ≡ false) (take n rows)
+  listed_by {n} l e = none_from n 0 (omega arith) e
 
 -- ---- how it fares
 
-module _ {b w v : List ℕ} {d : ℕ} {k : Key} {c : Candidate} {y : Row} where
-  pub suited-alone : SuitedIn b w v d k c y Alone
+module _ {b w v : List ℕ} {d m : ℕ} {k : Key} {c : Candidate} {y : Row} where
+  pub suited-alone : SuitedIn b w v d m k c y Alone
   suited-alone = record { nothing = λ e. cc; waits = λ e. cc }
 
-module _ {b w v : List ℕ} {d : ℕ} {k : Key} {c : Candidate} {y : Row} (p : c.preferred ≡ true) {l : Bool} (at : ListedAt v (d + 1) k.hash l) (n : l ≡ false) where
-  pub suited-barred : {r : Bool} → BarredIn b w d k c.connection r → r ≡ true → SuitedIn b w v d k c y Nothing
+module _ {b w v : List ℕ} {d m : ℕ} {k : Key} {c : Candidate} {y : Row} (p : c.preferred ≡ true) {l : Bool} (at : ListedAt b v m (d + 1) k.hash l) (n : l ≡ false) where
+  pub suited-barred : {r : Bool} → BarredIn b w d k c.connection r → r ≡ true → SuitedIn b w v d m k c y Nothing
   suited-barred q e = record {
-    nothing = λ _. record { preferred = p; elsewhere = subst (ListedAt v (d + 1) k.hash) n at; out = λ st s g es a. record { either = inl (sym (q st s g es a) ∙ e) } };
+    nothing = λ _. record { preferred = p; elsewhere = subst (ListedAt b v m (d + 1) k.hash) n at; out = λ st s g es a. record { either = inl (sym (q st s g es a) ∙ e) } };
     waits = λ i. cc;
   }
 
   pub suited-crowded : {x : Bool} → Crowded b k.hash x → x ≡ true → (z : std.Option Row) → Tells b (λ t. found z ≡ greatest (victims (at_hash k.hash) t)) → is_some z ≡ false
-      → SuitedIn b w v d k c y Nothing
+      → SuitedIn b w v d m k c y Nothing
   suited-crowded q l z r e = record {
     nothing = λ _. record {
       preferred = p;
-      elsewhere = subst (ListedAt v (d + 1) k.hash) n at;
+      elsewhere = subst (ListedAt b v m (d + 1) k.hash) n at;
       out = λ st s g es a. record {
         either = inr (
           leb-true (limits_of st).alternates (held_at k.hash st.table)
@@ -92,7 +91,7 @@ module _ {b w v : List ℕ} {d : ℕ} {k : Key} {c : Candidate} {y : Row} (p : c
   }
 
   pub suited_in : {r x z : Bool} {h : ℕ} → d < space → BarredIn b w d k c.connection r → r ≡ false → Crowded b k.hash x → x ≡ false
-      → eqb y.conn c.connection ≡ false → h ≡ quad_number y.hash → WaitsAt w d h z → z ≡ false → SuitedIn b w v d k c y Waits
+      → eqb y.conn c.connection ≡ false → h ≡ quad_number y.hash → WaitsAt w d h z → z ≡ false → SuitedIn b w v d m k c y Waits
   unfolding key_at
   suited_in l q e crowd few mine i wait u = record {
     nothing = λ j. cc;
@@ -100,7 +99,7 @@ module _ {b w v : List ℕ} {d : ℕ} {k : Key} {c : Candidate} {y : Row} (p : c
       spare = l;
       preferred = p;
       other = mine;
-      elsewhere = subst (ListedAt v (d + 1) k.hash) n at;
+      elsewhere = subst (ListedAt b v m (d + 1) k.hash) n at;
       suited = λ st s g es a. record {
         free = sym (q st s g es a) ∙ e;
         room = leb-false (limits_of st).alternates (held_at k.hash st.table) (sym (crowd st s g) ∙ few);
@@ -120,12 +119,12 @@ module _ {b w v : List ℕ} {d m : ℕ} {c : Candidate} where
   deferred_alone = record { nothing = λ e. cc; waits = λ e. cc; alone = λ _. refl }
 
   module _ {k : Key} {y : Row} (small : k.hash < top) (l : d < m) where
-    pub deferred_not : {r : Fare} → SuitedIn b w v d k c y r → (r ≡ Waits → ⊥) → Deferred b w w v d m (some k) c r
+    pub deferred_not : {r : Fare} → SuitedIn b w v d m k c y r → (r ≡ Waits → ⊥) → Deferred b w w v d m (some k) c r
     unfolding announce_keyed
     deferred_not x n = record {
       nothing = λ e st f.
-          let s : SuitsNot b w v d k c = x.nothing e in
-          owed_not f (out_same f k small (fewer f.listed.rows (omega (arith, f.listed.count)) (s.elsewhere refl f.listed.rows (omega (arith, f.listed.count)) f.listed.holds)) s.preferred
+          let s : SuitsNot b w v d m k c = x.nothing e in
+          owed_not f (out_same f k small (fewer f.listed.rows (omega (arith, f.listed.count)) (s.elsewhere refl st f.sound f.writes f.listed)) s.preferred
           (s.out st f.sound f.writes f.entries f.aside));
       waits = λ e. absurd (n e);
       alone = λ _. refl;
@@ -138,16 +137,16 @@ module _ {b w v : List ℕ} {d m : ℕ} {c : Candidate} where
             (each_front (λ (x : Row). eqb (key_at x).hash k.hash ≡ false) (take d rows) (get_or rows d y ∷ [])
             (subst (Each (λ (x : Row). eqb (key_at x).hash k.hash ≡ false)) (ap (λ (i : ℕ). take i rows) q ∙ take-suc rows d y g) e)).0
 
-    pub deferred_in : {w' : List ℕ} {z : Row} → Found row_size row_words v read_row d y → SuitedIn b w v d k c y Waits → RowIn b k c z → PutIn w w' d z
+    pub deferred_in : {w' : List ℕ} {z : Row} → ListedRow b v m d y → SuitedIn b w v d m k c y Waits → RowIn b k c z → PutIn w w' d z
         → Deferred b w w' v d m (some k) c Waits
     deferred_in {w'} {z} found-y x row put =
-        let s : SuitsToo b w v d k c y = x.waits refl in
+        let s : SuitsToo b w v d m k c y = x.waits refl in
         record {
           nothing = λ e. cc;
           waits = λ _. record {
             spare = (s.spare, l);
             owed = λ st f.
-                owed_in c f l y found-y k small (s.elsewhere refl f.listed.rows (omega (arith, f.listed.count)) f.listed.holds) s.preferred
+                owed_in c f l y found-y k small (s.elsewhere refl st f.sound f.writes f.listed) s.preferred
                 (s.suited st f.sound f.writes f.entries f.aside) s.other s.spare row put;
           };
           alone = λ e. cc;

@@ -4,8 +4,6 @@ use Rattle.std.specs.Prelude.{ℕ, ◌+◌, ◌≤◌, ◌<◌, ◌≡◌, ◌�
 use Rattle.std.proofs.Math.Option.{Option, some}
 use Rattle.ident.specs.Number.{top, Key}
 use Rattle.regions.specs.declared.Row.{Row}
-use Rattle.regions.specs.Regions.{Holds}
-use Rattle.regions.specs.Rows.{row_size, row_words}
 use Rattle.machine.specs.Limits.{Limits}
 use Rattle.machine.specs.State.{Candidate, Entry, State, Table, limits_of, on_table}
 use Rattle.machine.specs.Table.{held, held_at}
@@ -16,7 +14,7 @@ use Rattle.store.specs.Flat.{rows_of}
 use Rattle.store.specs.Gather.{key_at}
 use Rattle.store.specs.Image.{Writes}
 use Rattle.announcing.specs.Evicts.{entry_at}
-use Rattle.announcing.specs.Falls.{list_space, cuts, VictimRows}
+use Rattle.announcing.specs.Falls.{cuts, VictimRows}
 use Rattle.gathering.specs.declared.beside.Fare.{Fare}
 use Rattle.gathering.specs.declared.beside.Fare.TheVariants.{Nothing, Waits, Alone}
 use Rattle.gathering.specs.Waits.{pushes, waits, barred_beside}
@@ -41,9 +39,9 @@ left_by {b} {w} {v} {n} {d} {m} {st} x = cuts (take d x.listed.rows) st.table
 
 -- ---- an announcement at k
 
--- by false none of the first n rows in the words v is at the hash h
-abbrev pub ListedAt : List ℕ → ℕ → ℕ → Bool → Type 0
-ListedAt v n h r = r ≡ false → (rows : List Row) → n ≤ length rows → Holds row_size row_words list_space rows v → Each (λ (y : Row). eqb (key_at y).hash h ≡ false) (take n rows)
+-- by false none of the first n of the m victims listed in the words v is at the hash h
+abbrev pub ListedAt : List ℕ → List ℕ → ℕ → ℕ → ℕ → Bool → Type 0
+ListedAt b v m n h r = r ≡ false → (st : State) → Sound st → Writes b st → (x : VictimRows v m (rows_of st.table)) → Each (λ (y : Row). eqb (key_at y).hash h ≡ false) (take n x.rows)
 
 -- it changes nothing, as it is barred or there are eight at its hash of whom none can be evicted
 pub record ShutOut (m : Limits) (t : Table) (es : List Entry) (k : Key) (c : Candidate) : Type 0 where
@@ -56,21 +54,21 @@ pub record Suited (m : Limits) (t : Table) (es : List Entry) (k : Key) (c : Cand
   pub apart : waits (key_at y).hash es ≡ false
 
 -- whoever waits, and whatever sound state the bytes b write; the candidate is preferred, and no victim that is to go is at its hash
-pub record SuitsNot (b w v : List ℕ) (d : ℕ) (k : Key) (c : Candidate) : Type 0 where
+pub record SuitsNot (b w v : List ℕ) (d m : ℕ) (k : Key) (c : Candidate) : Type 0 where
   pub preferred : c.preferred ≡ true
-  pub elsewhere : ListedAt v (d + 1) k.hash false
+  pub elsewhere : ListedAt b v m (d + 1) k.hash false
   pub out : (st : State) → Sound st → Writes b st → Beside w d c.connection st.table (λ es. ShutOut (limits_of st) st.table es k c)
 
-pub record SuitsToo (b w v : List ℕ) (d : ℕ) (k : Key) (c : Candidate) (y : Row) : Type 0 where
+pub record SuitsToo (b w v : List ℕ) (d m : ℕ) (k : Key) (c : Candidate) (y : Row) : Type 0 where
   pub spare : d < space
   pub preferred : c.preferred ≡ true
   pub other : eqb y.conn c.connection ≡ false
-  pub elsewhere : ListedAt v (d + 1) k.hash false
+  pub elsewhere : ListedAt b v m (d + 1) k.hash false
   pub suited : (st : State) → Sound st → Writes b st → Beside w d c.connection st.table (λ es. Suited (limits_of st) st.table es k c y)
 
-pub record SuitedIn (b w v : List ℕ) (d : ℕ) (k : Key) (c : Candidate) (y : Row) (r : Fare) : Type 0 where
-  pub nothing : r ≡ Nothing → SuitsNot b w v d k c
-  pub waits : r ≡ Waits → SuitsToo b w v d k c y
+pub record SuitedIn (b w v : List ℕ) (d m : ℕ) (k : Key) (c : Candidate) (y : Row) (r : Fare) : Type 0 where
+  pub nothing : r ≡ Nothing → SuitsNot b w v d m k c
+  pub waits : r ≡ Waits → SuitsToo b w v d m k c y
 
 -- c comes in at k behind es for the candidate of a row, the greatest that can be evicted in the table t: they are then `entries`, and `left` is left of t
 pub record Instead (m : Limits) (t : Table) (es : List Entry) (k : Key) (c : Candidate) (entries : List Entry) (left : Table) : Type 0 where

@@ -8,7 +8,7 @@ ghost use Rattle.words.specs.Words.{words};
 ghost use Rattle.regions.specs.Rows.{row_size};
 ghost use Rattle.store.specs.Shown.{Kept};
 ghost use Rattle.requests.specs.Changes.{candidate_of};
-ghost use Rattle.announcing.specs.Falls.{list_space};
+ghost use Rattle.announcing.specs.Falls.{VictimsIn};
 ghost use Rattle.gathering.specs.Aside.{space, RowsOrFare};
 ghost use Rattle.gathering.specs.Deferring.{ListedAt, SuitedIn, Deferred};
 
@@ -19,12 +19,12 @@ use regions::Row;
 use regions::listed::Records;
 use requests::Window;
 
-// Whether one of the first n rows listed is at the hash h.
-fn listed_at(top: &Victims, n: usize, h: ident::Hash) -> bool
-    requires { n ≤ list_space }
-    ensures { ListedAt (words top.now.bytes) n (hash_num h) result }
+// Whether one of the first n victims listed is at the hash h.
+fn listed_at(s: &[u8], top: &Victims, n: usize, h: ident::Hash) -> bool
+    requires { Kept s.now × VictimsIn s.now (words top.now.bytes) top.now.count × (n ≤ top.now.count) }
+    ensures { ListedAt s.now (words top.now.bytes) top.now.count n (hash_num h) result }
 {
-    (0..n).any(|i| lent_lists::same_hash(ident::Hash::from(top.get(i).hash), h))
+    (0..n).any(|i| lent_lists::same_hash(ident::Hash::from(top.get(s, i).hash), h))
 }
 
 // How the announcement c at k fares beside those that wait, if the candidate of the row y, the next of the victims, goes for
@@ -37,8 +37,8 @@ fn suits(
     c: requests::Candidate,
     y: regions::Row,
 ) -> Result<Window, Fare>
-    requires { Kept s.now × (new.count ≤ space) × (new.count < list_space) }
-    ensures { RowsOrFare s.now (key_num k) (SuitedIn s.now (words new.entry.bytes.now) (words top.now.bytes) new.entry.count (key_num k) (candidate_of c) y) result }
+    requires { Kept s.now × VictimsIn s.now (words top.now.bytes) top.now.count × (new.count ≤ space) × (new.count < top.now.count) }
+    ensures { RowsOrFare s.now (key_num k) (SuitedIn s.now (words new.entry.bytes.now) (words top.now.bytes) new.entry.count top.now.count (key_num k) (candidate_of c) y) result }
 {
     if new.count >= SPACE {
         return Err(Fare::Alone);
@@ -47,7 +47,7 @@ fn suits(
         return Err(Fare::Alone);
     }
     let h = k.hash;
-    if listed_at(top, new.count + 1, h) {
+    if listed_at(s, top, new.count + 1, h) {
         return Err(Fare::Alone);
     }
     let Some(w) = beside::open_rows(s, new, k, c.connection) else {
@@ -80,13 +80,13 @@ fn defer_at(
     k: ident::Key,
     c: requests::Candidate,
 ) -> Fare
-    requires { Kept s.now × (8 * (row_size * space) ≤ length new.old) × (d ≤ space) }
+    requires { Kept s.now × VictimsIn s.now (words top.now.bytes) top.now.count × (8 * (row_size * space) ≤ length new.old) × (d ≤ space) }
     ensures { Deferred s.now (words new.old) (words new.new) (words top.now.bytes) d top.now.count (some (key_num k)) (candidate_of c) result }
 {
     if d >= top.count {
         return Fare::Alone;
     }
-    let y = top.get(d);
+    let y = top.get(s, d);
     match suits(s, Records::new(new, d), top, k, c, y) {
         Ok(rows) => {
             region::put_in(new, d, beside::waiting_row(s, k, rows, c));
@@ -98,7 +98,7 @@ fn defer_at(
 
 // The same at the key of c's item. An item of any other kind than t, v and w has no key.
 pub fn defer(s: &[u8], new: &mut [u8], d: usize, top: &Victims, c: requests::Candidate) -> Fare
-    requires { Kept s.now × (8 * (row_size * space) ≤ length new.old) × (d ≤ space) }
+    requires { Kept s.now × VictimsIn s.now (words top.now.bytes) top.now.count × (8 * (row_size * space) ≤ length new.old) × (d ≤ space) }
     ensures { Deferred s.now (words new.old) (words new.new) (words top.now.bytes) d top.now.count (key_of (item_num c.item)) (candidate_of c) result }
 {
     let Some(k) = ident::key_of(c.item) else {

@@ -1,4 +1,4 @@
-// The victims for those that wait go: in one pass over the rows, or one after the other if they are few.
+// The victims for those that wait go: in one pass over the rows, or by itself if it is one.
 ghost use Rattle.std.specs.Prelude.{◌≡◌, ◌≤◌, ◌<◌};
 ghost use Rattle.words.specs.Words.{words};
 ghost use Rattle.store.specs.Shown.{rows_in, Shown, Kept};
@@ -37,10 +37,10 @@ fn drop_row(s: &mut [u8], m: usize, i: usize, v: regions::Row) -> usize
 // The first d of the victims listed in `top` go, in one pass.
 #[tactic(auto, using(announcing::proofs::Lent::kept_long))]
 fn drop_victims(s: &mut [u8], top: &Victims, d: usize)
-    requires { Kept s.old × (1 ≤ d) × (d ≤ top.now.count) }
+    requires { Kept s.old × VictimsIn s.old (words top.now.bytes) top.now.count × (1 ≤ d) × (d ≤ top.now.count) }
     ensures { Gone s.old s.new (words top.now.bytes) top.now.count d }
 {
-    let v = top.get(d - 1);
+    let v = top.get(s, d - 1);
     let n = store::head::rows(s);
     let mut k = 0;
     for i in 0..n {
@@ -50,28 +50,23 @@ fn drop_victims(s: &mut [u8], top: &Victims, d: usize)
     store::rows::drop_rows(s, rest);
 }
 
-// The same one after the other.
-fn cut_victims(s: &mut [u8], top: &Victims, d: usize)
-    requires { Kept s.old × VictimsIn s.old (words top.now.bytes) top.now.count × (d ≤ top.now.count) }
-    ensures { Gone s.old s.new (words top.now.bytes) top.now.count d }
+// The first of them goes alone.
+fn cut_first(s: &mut [u8], top: &Victims)
+    requires { Kept s.old × VictimsIn s.old (words top.now.bytes) top.now.count × (1 ≤ top.now.count) }
+    ensures { Gone s.old s.new (words top.now.bytes) top.now.count 1 }
 {
-    for i in 0..d {
-        let y = top.get(i);
-        requests::cut(s, announcing::evict::key_of(y), y.conn);
-    }
+    let y = top.get(s, 0);
+    requests::cut(s, announcing::evict::key_of(y), y.conn);
 }
 
-// So many go one after the other, since a pass over the rows costs more.
-const FEW: usize = 4;
-
-// The first d of the victims listed in `top` go.
+// The first d of the victims listed in `top` go. (A pass over the rows costs more than one that goes alone, and no more than several.)
 pub fn go(s: &mut [u8], top: &Victims, d: usize)
     requires { Kept s.old × VictimsIn s.old (words top.now.bytes) top.now.count × (d ≤ top.now.count) }
     ensures { Gone s.old s.new (words top.now.bytes) top.now.count d }
 {
-    if d <= FEW {
-        cut_victims(s, top, d);
-        return;
+    match d {
+        0 => {}
+        1 => cut_first(s, top),
+        _ => drop_victims(s, top, d),
     }
-    drop_victims(s, top, d);
 }

@@ -6,6 +6,7 @@ ghost use Rattle.ident.specs.Words.{item_num};
 ghost use Rattle.words.specs.Words.{words};
 ghost use Rattle.store.specs.Shown.{Kept};
 ghost use Rattle.requests.specs.Changes.{candidate_of};
+ghost use Rattle.announcing.specs.Falls.{VictimsIn};
 ghost use Rattle.gathering.specs.declared.beside.Fare.TheVariants.{Waits};
 ghost use Rattle.gathering.specs.Aside.{space, Empty, SetAside};
 ghost use Rattle.gathering.specs.Deferring.{Deferred};
@@ -60,7 +61,7 @@ impl Waiting {
 
     // The same where L are held and nobody goes yet: `deferred::defer`.
     pub fn defer(&mut self, s: &[u8], top: &Victims, c: Candidate) -> Fare
-        requires { Kept s.now }
+        requires { Kept s.now × VictimsIn s.now (words top.now.bytes) top.now.count }
         ensures { Deferred s.now (words self.old.bytes) (words self.new.bytes) (words top.now.bytes) self.old.count top.now.count (key_of (item_num c.item)) (candidate_of c) result
             × (self.new.count ≡ then_wait self.old.count result) }
     {

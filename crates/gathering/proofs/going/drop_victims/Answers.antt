@@ -32,7 +32,7 @@ drop_rows-requires c = (
 )
 
 pub returns : goal.returns
-returns c = gone_at_once c.requires.1
-    c.requires.2 c.get-v.ensures
+returns c = gone_at_once c.requires.2
+    c.requires.3 c.get-v.ensures
     (λ st s w. dropping_end c.loop-i.invariant c.rows-n.ensures.word (omega
     (arith, c.loop-i-test.false)) c.drop_rows.ensures st s w)
