@@ -17,19 +17,12 @@ use places::{
 };
 use regions::Row;
 use regions::listed::Records;
+use sound_rows::group::same_hash;
 
 // Slots in which `distinct` marks hashes, and a factor that spreads these.
 const SLOTS: usize = 4096;
 
 const SPREAD: u64 = 0x1E37_79B1;
-
-// Whether two hashes are equal. (The derived test, whose clause is of the four words: that the numbers are equal exactly if these are holds
-// of words within their range, and is told once here for three callers.)
-pub fn same_hash(a: regions::Quad, b: regions::Quad) -> bool
-    ensures { Decides result (quad_number a ≡ quad_number b) }
-{
-    a == b
-}
 
 // Whether h is among the hashes from .. to of the list that starts at the word a. (A loop: tried with `any` and a closure with a contract. The
 // check left open what its yes and what its no say of the hashes by their index.)
