@@ -1,21 +1,17 @@
 -- Hashes in words: equal as numbers exactly if equal word by word, and lists of them.
 use Prim.Native.Nat.{ℕ, ◌+◌, ◌*◌, ◌≤◌, ◌<◌}
 use mathlib.Core.Path.{◌≡◌, refl, sym, ap, ◌∙◌}
-use mathlib.Core.Bool.{Bool, true, false, ◌&&◌}
+use mathlib.Core.Bool.{true, false}
 use mathlib.Core.List.{List, [], ◌∷◌}
 use native.Mathlib.Omega.{arith}
 use lib.ListN.{take, drop}
 use lib.Seq.{drop-drop, get_or-take}
-use lib.Dec.{eqb}
-use borrow.Author.Tests.{eqb-true, eq-eqb, ne_eqb}
-use Rattle.words.specs.Words.{number, Decides}
+use borrow.Author.Tests.{eq-eqb, ne_eqb}
+use Rattle.words.specs.Words.{number}
 use Rattle.regions.specs.declared.Quad.{Quad}
 use Rattle.regions.specs.Rows.{read_quad, quad_number}
 use Rattle.machine.specs.Claim.{elem}
-use Rattle.machine.proofs.Tests.{never, and_left, and_right}
-use Rattle.store.specs.FlatSound.{QuadFits}
 use Rattle.store.specs.Read.{read_hash}
-use Rattle.store.proofs.Quads.{quad-number}
 use Rattle.sound.specs.Places.{hashes_in}
 use Rattle.sound_rows.proofs.Decide.{rest_turn, rest_none}
 

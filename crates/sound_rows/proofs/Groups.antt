@@ -5,11 +5,11 @@ use mathlib.Core.Logic.{inl, inr}
 use mathlib.Core.Bool.{Bool, true, false, ◌&&◌, and-true}
 use mathlib.Core.List.{List, [], ◌∷◌, ◌++◌}
 use native.Mathlib.Omega.{arith}
-use lib.Dec.{ltb, leb, eqb}
-use lib.ListN.{length, drop, get_or}
+use lib.Dec.{ltb, eqb}
+use lib.ListN.{drop, get_or}
 use lib.Seq.{drop-drop}
-use borrow.Author.Tests.{ltb-true, ltb-false, leb-true, leb-false, eqb-true, eqb-false, eq-eqb, ne_eqb}
-use Rattle.words.specs.Words.{recs, Decides}
+use borrow.Author.Tests.{ltb-true, ltb-false, eqb-true, eqb-false, eq-eqb, ne_eqb}
+use Rattle.words.specs.Words.{recs}
 use Rattle.words.proofs.Records.{recs-add, recs_at}
 use Rattle.regions.specs.declared.Row.{Row}
 use Rattle.std.specs.Prelude.{Option, Some, None, is_some}

@@ -1,10 +1,8 @@
 use borrow.Author.Rules.{rules}
 use native.Mathlib.Omega.{arith}
-use mathlib.Core.Bool.{true}
 use Rattle.words.specs.Words.{words}
 use Rattle.regions.specs.Rows.{quad_number}
 use Rattle.machine.proofs.Tests.{and_left, and_right}
-use Rattle.sound_rows.specs.Groups.{Walked}
 use Rattle.sound_rows.proofs.ConnMarks.{distinct_both}
 use Rattle.sound_rows.proofs.Groups.{group_off, off_turn, off_stop, halves, groups_end, walked_run}
 use Rattle.sound_rows.proofs.Halves.{txid_level, wtxid_level}
@@ -44,13 +42,13 @@ returns-then-not-group_fits c =
     let fits = rw (c.new-txid.ensures.0, c.new-txid.ensures.1, c.new-txid.ensures.2, c.new-wtxid.ensures.0, c.new-wtxid.ensures.1, c.new-wtxid.ensures.2)
     at c.if-not-group_fits.ensures in
     λ s.
-        let x = txid_level n w s m c.seek_row-m.ensures in
-        let y = wtxid_level n w s m c.seek_row-m.ensures in
-        let least = c.least_hash-h.ensures in
-        off_stop (c.loop-i.invariant.3 s)
-        (group_off w i m j n (quad_number c.least_hash-h.result) c.walk-a.result.to c.walk-b.result.to (omega arith) (omega arith) x y least
-            (walked_run 0 (omega arith) x least.left left) (walked_run m (omega arith) y least.right right))
-        fits
+    let x = txid_level n w s m c.seek_row-m.ensures in
+    let y = wtxid_level n w s m c.seek_row-m.ensures in
+    let least = c.least_hash-h.ensures in
+    off_stop (c.loop-i.invariant.3 s)
+    (group_off w i m j n (quad_number c.least_hash-h.result) c.walk-a.result.to c.walk-b.result.to (omega arith) (omega arith) x y least
+    (walked_run 0 (omega arith) x least.left left) (walked_run m (omega arith) y least.right right))
+    fits
 
 pub loop-i-preserved : goal.loop-i-preserved
 loop-i-preserved c =
@@ -72,7 +70,7 @@ loop-i-preserved c =
           let least = c.least_hash-h.ensures in
           off_turn (c.loop-i.invariant.3 s)
           (group_off w i m j n (quad_number c.least_hash-h.result) c.walk-a.result.to c.walk-b.result.to (omega arith) (omega arith) x y least
-              (walked_run 0 (omega arith) x least.left left) (walked_run m (omega arith) y least.right right))
+          (walked_run 0 (omega arith) x least.left left) (walked_run m (omega arith) y least.right right))
           fits,
     )
 

@@ -1,10 +1,9 @@
 use native.Mathlib.Omega.{arith}
-use Prim.Native.Nat.{ℕ, ◌+◌, ◌%◌, ◌/◌, ◌≤◌, ◌<◌}
-use mathlib.Core.Path.{◌≡◌, refl, sym, ap, ◌∙◌}
+use Prim.Native.Nat.{ℕ, ◌/◌}
+use mathlib.Core.Path.{◌≡◌, refl, sym, ap}
 use mathlib.Core.Logic.{inl, inr}
 use mathlib.Core.Bool.{true, not}
 use lib.Dec.{ltb, eqb}
-use lib.ListN.{get_or}
 use borrow.Author.Tests.{ltb-true, ltb-false, eq-eqb}
 use Rattle.words.specs.Words.{words}
 use Rattle.regions.proofs.Bits.{as_bit}
@@ -14,8 +13,8 @@ use Rattle.machine.proofs.Tests.{test, never, and_left, and_right}
 use Rattle.store.specs.Flat.{own_bit}
 use Rattle.store.specs.FlatSound.{hash_at, owns}
 use Rattle.store.proofs.Certify.{own-bit}
-use Rattle.sound_rows.specs.Groups.{row_at, Walked}
-use Rattle.sound_rows.proofs.Groups.{in_none, one_more, owners_none}
+use Rattle.sound_rows.specs.Groups.{row_at}
+use Rattle.sound_rows.proofs.Groups.{one_more, owners_none}
 use Rattle.sound_rows.proofs.ConnMarks.{marks_none, marks_turn}
 use Rattle.sound_rows.proofs.group.walk.Goals as goal
 
