@@ -20,7 +20,7 @@ use Rattle.store.proofs.Quads.{quad-number}
 use Rattle.sound.specs.Whole.{PollPlain, CursorPlain}
 use Rattle.sound_rows.proofs.Decide.{Iff}
 use Rattle.sound_rows.proofs.Ranges.{Below, below_drop, quad_ranges}
-use Rattle.sound.proofs.Hashes.{same-quad}
+use Rattle.sound_rows.proofs.Quads.{same-quad}
 
 -- ---- the words of a poll time and of a cursor
 

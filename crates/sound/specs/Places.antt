@@ -1,6 +1,5 @@
 -- What the test of the package places decides, in the words of FlatSound, and what its parts decide.
 use Rattle.std.specs.Prelude.{ℕ, zero, suc, ◌+◌, ◌-◌, ◌*◌, ◌/◌, ◌%◌, ◌≤◌, ◌<◌, ◌≡◌, List, take, drop, replicate}
-use Rattle.std.specs.Int.Bits.{bit_xor}
 use Rattle.std.proofs.Math.Seq.{slice}
 use Rattle.words.specs.Words.{recs}
 use Rattle.regions.specs.declared.Row.{Row}
@@ -8,7 +7,7 @@ use Rattle.regions.specs.declared.Quad.{Quad}
 use Rattle.regions.specs.Regions.{each}
 use Rattle.regions.specs.Rows.{quad_of}
 use Rattle.places.specs.Places.{place_size, place_words, place_key, wtxids_at, parents_at, kept_size, list_most}
-use Rattle.machine.specs.Limits.{max_wtxids}
+use Rattle.machine.specs.Limits.{max_wtxids, word}
 use Rattle.machine.specs.Typed.{Each}
 use Rattle.store.specs.FlatSound.{PlaceFits, PlacesAscend}
 use Rattle.store.specs.Read.{read_hash, read_place}
@@ -39,7 +38,7 @@ abbrev pub slot_count : ℕ
 slot_count = 4096
 
 unfoldable pub fold_of : Quad → ℕ
-fold_of q = bit_xor (bit_xor (bit_xor q.w0 q.w1) q.w2) q.w3
+fold_of q = (((q.w3 + q.w2 * 3 % word) % word + q.w1 * 5 % word) % word + q.w0 * 7 % word) % word
 
 abbrev pub slot_of : ℕ → ℕ
 slot_of h = (fold_of (quad_of h) % 4294967296 + fold_of (quad_of h) / 4294967296) * 506952113 / 1048576 % slot_count

@@ -25,7 +25,8 @@ ghost use Rattle.machine.specs.Limits.{max_announcements};
 ghost use Rattle.store.specs.Image.{head_size, SoundStore};
 ghost use Rattle.sound.specs.Whole.{PollPlain, CursorPlain, SizesPlain, HeadPlain, RecordsSound};
 
-use place::{places_fit, same_hash};
+use place::places_fit;
+use sound_rows::group::same_hash;
 
 // The first of the header's words that are zero in every sound store.
 const SPARE: usize = 18;

@@ -14,9 +14,6 @@ use sound_rows::group;
 use sound_rows::part::Part;
 use std::ops::Bound;
 
-// Rows that are walked before they are searched.
-const NEAR: usize = 64;
-
 // Whether one of the rows owns the Wtxid key of the hash h, whose rows are guessed to begin at the i-th.
 pub fn is_owned(rows: Records<Row>, h: Quad, i: usize) -> bool
     ensures { RowsSound (recs row_size read_row rows.entry.count (words rows.entry.bytes.now))
@@ -31,20 +28,25 @@ pub fn is_owned(rows: Records<Row>, h: Quad, i: usize) -> bool
     group::owners(Part::new(rows, from, to)) >= 1
 }
 
-// Where the rows of the Wtxid key of the hash h begin: a walk from the row `at` on, and a search if they are not near it.
-// (A loop: it ends in two ways, at a row or after so many.)
+// Where the rows of the Wtxid key of the hash h begin, if they begin at the row `at` or behind it: from there on the steps double, then what is left is halved, so that a walk
+// pays for the rows between two places. (The answer is tested by who takes it. `selecting` has the same search with a contract, over the bytes of a whole store.)
 pub fn walk_to(rows: Records<Row>, h: Quad, at: usize) -> usize {
     let k = Key {
         kind: ident::Kind::Wtxid,
         hash: h,
     };
-    for i in at..rows.count {
-        if i - at >= NEAR {
-            return regions::seek_row(rows.bytes, rows.count, Bound::Included(k));
-        }
-        if !regions::key_less(regions::key_at(rows.bytes, i), k) {
-            return i;
+    let mut lo = at;
+    let mut hi = rows.count;
+    let mut step = 0;
+    while lo < hi {
+        let wide = hi - lo;
+        let d = if step < wide { step } else { wide / 2 };
+        if regions::key_less(regions::key_at(rows.bytes, lo + d), k) {
+            lo = lo + d + 1;
+            step = 2 * d + 1;
+        } else {
+            hi = lo + d;
         }
     }
-    rows.count
+    lo
 }

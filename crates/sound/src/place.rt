@@ -17,19 +17,12 @@ use places::{
 };
 use regions::Row;
 use regions::listed::Records;
+use sound_rows::group::same_hash;
 
 // Slots in which `distinct` marks hashes, and a factor that spreads these.
 const SLOTS: usize = 4096;
 
 const SPREAD: u64 = 0x1E37_79B1;
-
-// Whether two hashes are equal. (The derived test, whose clause is of the four words: that the numbers are equal exactly if these are holds
-// of words within their range, and is told once here for three callers.)
-pub fn same_hash(a: regions::Quad, b: regions::Quad) -> bool
-    ensures { Decides result (quad_number a ≡ quad_number b) }
-{
-    a == b
-}
 
 // Whether h is among the hashes from .. to of the list that starts at the word a. (A loop: tried with `any` and a closure with a contract. The
 // check left open what its yes and what its no say of the hashes by their index.)
@@ -46,12 +39,15 @@ fn has_hash(s: &[u8], a: usize, from: usize, to: usize, h: regions::Quad) -> boo
     false
 }
 
-// A hash's words in one.
+// A hash's words in one. (Each counts for another multiple: hashes that differ in one byte alone would meet more often if the words counted alike.)
 #[tactic(auto, unfolding(crate::specs::Places::fold_of))]
 fn fold(h: regions::Quad) -> u64
     ensures { result ≡ fold_of h }
 {
-    h.w0 ^ h.w1 ^ h.w2 ^ h.w3
+    let w2 = h.w2.wrapping_mul(3);
+    let w1 = h.w1.wrapping_mul(5);
+    let w0 = h.w0.wrapping_mul(7);
+    h.w3.wrapping_add(w2).wrapping_add(w1).wrapping_add(w0)
 }
 
 // Where `distinct` marks a hash.

@@ -1,8 +1,8 @@
 -- Marks of connections: one whose slot has no mark is in no row that was marked.
-use Prim.Native.Nat.{ℕ, ◌+◌, ◌-◌, ◌%◌, ◌≤◌, ◌<◌}
+use Prim.Native.Nat.{ℕ, ◌+◌, ◌%◌, ◌≤◌, ◌<◌}
 use mathlib.Core.Path.{◌≡◌, refl, ◌∙◌}
 use mathlib.Core.Logic.{◌⊎◌, inl, inr}
-use mathlib.Core.List.{List, [], ◌∷◌}
+use mathlib.Core.List.{List, []}
 use native.Mathlib.Omega.{arith}
 use lib.Dec.{ltb, eqb}
 use lib.ListN.{length, get_or, set}
@@ -12,14 +12,11 @@ use Rattle.regions.specs.declared.Row.{Row}
 use Rattle.machine.specs.Table.{one}
 use Rattle.machine.proofs.Tests.{test}
 use Rattle.store.specs.FlatSound.{count_rows}
-use Rattle.sound_rows.specs.Groups.{row_at, rows_in, rows_by, Apart, conn_slots, ConnsMarked}
-use Rattle.sound_rows.proofs.Groups.{in-turn, in_none}
+use Rattle.sound_rows.specs.Groups.{row_at, rows_in, rows_by, conn_slots, ConnsMarked, Distinct, Marking}
+use Rattle.sound_rows.proofs.Groups.{in_none, one_more}
 
 none_by : (x : ℕ) → rows_by x [] ≡ 0
 none_by x = unfold count_rows in refl
-
-by_cons : (x : ℕ) (r : Row) (rs : List Row) → rows_by x (r ∷ rs) ≡ one (eqb r.conn x) + rows_by x rs
-by_cons x r rs = unfold count_rows in refl
 
 pub marked-nil : (v : ℕ) (t : List ℕ) → ConnsMarked v t []
 marked-nil v t x h = absurd (omega (arith, none_by x))
@@ -45,29 +42,42 @@ module _ (v : ℕ) (t : List ℕ) where
     marked_kept : (rs : List Row) → ConnsMarked v t rs → ConnsMarked v (set t (y % conn_slots) v) rs
     marked_kept rs m x b = kept x (either x) (m x b)
 
-    marked_more : (r : Row) (rs : List Row) → r.conn ≡ y → ConnsMarked v t rs → ConnsMarked v (set t (y % conn_slots) v) (r ∷ rs)
-    marked_more r rs q m x b = elim (test (eqb r.conn x)) [
-      | inl d ↦ let e : x ≡ y = omega (arith, eqb-true r.conn x d) in rw e (get_or-set_same t (y % conn_slots) v 0 h)
-      | inr d ↦ kept x (either x) (m x (omega (arith, rw d at (by_cons x r rs))))
+    -- one row more
+    marked_more : (rs rs' : List Row) → ((x : ℕ) → rows_by x rs' ≡ rows_by x rs + one (eqb y x)) → ConnsMarked v t rs → ConnsMarked v (set t (y % conn_slots) v) rs'
+    marked_more rs rs' e m x b = elim (test (eqb y x)) [
+      | inl d ↦ rw (← (eqb-true y x d)) (get_or-set_same t (y % conn_slots) v 0 h)
+      | inr d ↦ kept x (either x) (m x (omega (arith, rw d at (e x))))
     ]
 
--- what a walk from the last row back to k has shown, with the slots t₀ before it and t after it
+-- ---- the walk
+
+-- what a walk from the row `from` to the one at i has shown, with the slots t₀ before it and t after it
 abbrev pub Marks : List ℕ → ℕ → ℕ → ℕ → List ℕ → List ℕ → Type 0
-Marks w k to v t₀ t = (others : List Row) → ConnsMarked v t₀ others → Apart others (rows_in w k to) × ConnsMarked v t others × ConnsMarked v t (rows_in w k to)
+Marks w from i v t₀ t = (others : List Row) → ConnsMarked v t₀ others → Distinct others []
+    → Distinct others (rows_in w from i) × ConnsMarked v t others × ConnsMarked v t (rows_in w from i)
 
-pub marks_none : (w : List ℕ) (to v : ℕ) (t : List ℕ) → Marks w to to v t t
-marks_none w to v t others m = rw (in_none w to to (omega arith)) (tt, m, marked-nil v t)
+pub marks_none : (w : List ℕ) (from v : ℕ) (t : List ℕ) → Marks w from from v t t
+marks_none w from v t others m d = rw (in_none w from from (omega arith)) (d, m, marked-nil v t)
 
-pub marks_turn : (w : List ℕ) (k to v : ℕ) (t₀ t : List ℕ) (r : Row) {y : ℕ} → 0 < k → k ≤ to → r ≡ row_at w (k - 1) → y ≡ r.conn % conn_slots → y < length t → (get_or t y 0 ≡ v → ⊥)
-    → Marks w k to v t₀ t → Marks w (k - 1) to v t₀ (set t y v)
-marks_turn w k to v t₀ t r {y} p l e q h z m others o =
-    let g : k - 1 + 1 ≡ k = omega arith in
-    let turn : rows_in w (k - 1) to ≡ r ∷ rows_in w k to = rw e (rw g at (in-turn w (k - 1) to (omega arith))) in
-    let a = m others o in
+pub marks_turn : (w : List ℕ) (from i v : ℕ) (t₀ t : List ℕ) (r : Row) {y : ℕ} → from ≤ i → r ≡ row_at w i → y ≡ r.conn % conn_slots → y < length t → (get_or t y 0 ≡ v → ⊥)
+    → Marks w from i v t₀ t → Marks w from (i + 1) v t₀ (set t y v)
+marks_turn w from i v t₀ t r {y} l e q h z m others o d =
+    let a = m others o d in
     let h' : r.conn % conn_slots < length t = rw q at h in
     let z' : get_or t (r.conn % conn_slots) 0 ≡ v → ⊥ = rw q at z in
-    rw (turn, q) (
-      (unmarked v t (rows_in w k to) r.conn a.2 z', unmarked v t others r.conn a.1 z', a.0),
+    let more : (x : ℕ) → rows_by x (rows_in w from (i + 1)) ≡ rows_by x (rows_in w from i) + one (eqb r.conn x) = λ x. rw e (one_more (λ s. eqb s.conn x) w from i l) in
+    rw q (
+      λ x. elim (test (eqb r.conn x)) [
+        | inl b ↦ let g : r.conn ≡ x = eqb-true r.conn x b in
+            omega (arith, rw b at (more x), unmarked v t (rows_in w from i) x a.2 (rw g at z'), unmarked v t others x a.1 (rw g at z'))
+        | inr b ↦ omega (arith, rw b at (more x), a.0 x)
+      ],
       marked_kept v t r.conn h' others a.1,
-      marked_more v t r.conn h' r (rows_in w k to) refl a.2,
+      marked_more v t r.conn h' (rows_in w from i) (rows_in w from (i + 1)) more a.2,
     )
+
+-- two walks, one behind the other, from no mark
+pub distinct_both : (w : List ℕ) (i a j b v : ℕ) (t t' t'' : List ℕ) → Marking w i a v t t' → Marking w j b v t' t'' → Distinct (rows_in w i a) (rows_in w j b)
+distinct_both w i a j b v t t' t'' m n =
+    let p = m [] (marked-nil v t) (λ x. omega (arith, none_by x)) in
+    (n (rows_in w i a) p.1 (λ x. omega (arith, p.0 x))).0

@@ -5,11 +5,11 @@ use mathlib.Core.Logic.{inl, inr}
 use mathlib.Core.Bool.{Bool, true, false, ◌&&◌, and-true}
 use mathlib.Core.List.{List, [], ◌∷◌, ◌++◌}
 use native.Mathlib.Omega.{arith}
-use lib.Dec.{ltb, leb, eqb}
-use lib.ListN.{length, drop, get_or}
+use lib.Dec.{ltb, eqb}
+use lib.ListN.{drop, get_or}
 use lib.Seq.{drop-drop}
-use borrow.Author.Tests.{ltb-true, ltb-false, leb-true, leb-false, eqb-true, eqb-false, eq-eqb, ne_eqb}
-use Rattle.words.specs.Words.{recs, Decides}
+use borrow.Author.Tests.{ltb-true, ltb-false, eqb-true, eqb-false, eq-eqb, ne_eqb}
+use Rattle.words.specs.Words.{recs}
 use Rattle.words.proofs.Records.{recs-add, recs_at}
 use Rattle.regions.specs.declared.Row.{Row}
 use Rattle.std.specs.Prelude.{Option, Some, None, is_some}
@@ -22,7 +22,8 @@ use Rattle.store.specs.Flat.{own_bit}
 use Rattle.store.specs.FlatSound.{count_rows, hash_at, owns}
 use Rattle.store.proofs.Counts.{rows_append, rows_all, rows_same}
 use Rattle.store.proofs.Certify.{own-bit}
-use Rattle.sound_rows.specs.Groups.{GroupsSound, row_at, rows_in, Least, Run, rows_by, Apart, GroupFits}
+use Rattle.sound_rows.specs.declared.group.Found.{Found}
+use Rattle.sound_rows.specs.Groups.{GroupsSound, Walked, row_at, rows_in, Least, Run, rows_by, Apart, GroupFits}
 use Rattle.sound_rows.proofs.Decide.{Iff, iff_self, rest_all, rest_turn, rest_none}
 
 -- ---- rows from i to m
@@ -43,6 +44,13 @@ module _ (w : List ℕ) where
   pub in_each : (P : Row → Type 0) (d i m : ℕ) → i + d ≡ m → ((k : ℕ) → i ≤ k → k < m → P (row_at w k)) → Each P (rows_in w i m)
   in_each P zero i m e f = rw (in_none i m (omega arith)) tt
   in_each P (suc d) i m e f = rw (in-turn i m (omega arith)) (f i (omega arith) (omega arith), in_each P d (i + 1) m (omega arith) (λ k h l. f k (omega arith) l))
+
+  -- a row more at the end
+  pub in_more : (i m : ℕ) → i ≤ m → rows_in w i (m + 1) ≡ rows_in w i m ++ (row_at w m ∷ [])
+  in_more i m h = in_split i m (m + 1) h (omega arith) ∙ rw (in-turn m (m + 1) (omega arith), in_none (m + 1) (m + 1) (omega arith)) refl
+
+pub one_more : (q : Row → Bool) (w : List ℕ) (i m : ℕ) → i ≤ m → count_rows q (rows_in w i (m + 1)) ≡ count_rows q (rows_in w i m) + one (q (row_at w m))
+one_more q w i m h = rw (in_more w i m h, rows_append q (rows_in w i m) (row_at w m ∷ [])) (unfold count_rows in omega arith)
 
 -- ---- counts of rows with one hash
 
@@ -126,6 +134,15 @@ module _ (w : List ℕ) (from i to h r : ℕ) (o : from ≤ i) (l : Level w from
 
   run_back : Each (λ r. hash_at r ≡ h → ⊥) (rows_in w r to)
   run_back = in_each w (λ r. hash_at r ≡ h → ⊥) (to - r) r to (omega (arith, v.most)) (λ k a b e. omega (arith, v.past (omega arith), l r k (omega (arith, v.least)) a b))
+
+-- the walk ends where the rows of its hash do, if their hashes do not fall and the first is not below it
+pub walked_run : {w t t' : List ℕ} {i to h v : ℕ} {r : Found} (from : ℕ) → from ≤ i → Level w from to → (i < to → h ≤ hash_at (row_at w i)) → Walked w i to h v t t' r → Run w i to h r.to
+walked_run {w} {i = i} {to = to} {h = h} {r = r} from o l f v = record {
+  least = v.least;
+  most = v.most;
+  upto = λ k a b. omega (arith, v.same k a b);
+  past = λ b. omega (arith, f (omega (arith, v.least)), l i r.to o v.least b, v.past b);
+}
 
 module _ (w : List ℕ) (i m j n h a b : ℕ) {from from' : ℕ} (o : from ≤ i) (o' : from' ≤ j) (l : Level w from m) (l' : Level w from' n) (e : Least w i m j n h) (v : Run w i m h a)
     (v' : Run w j n h b) where
@@ -240,13 +257,6 @@ owners_turn w i to h e = rw (in-turn w i to h, e) (cons (row_at w i) (rows_in w 
 
 pub owners_none : (w : List ℕ) (i to : ℕ) → to ≤ i → count_rows owns (rows_in w i to) ≡ 0
 owners_none w i to h = rw (in_none w i to h) (unfold count_rows in refl)
-
-pub group_decides : {most : ℕ} (a b : List Row) (m n : ℕ) → length a + length b ≤ most → Apart b a → Apart [] b → m ≡ count_rows owns a → n ≡ count_rows owns b
-    → Decides (leb (m + n) 1) (GroupFits most a b)
-group_decides a b m n f p q e g = elim (test (leb (m + n) 1)) [
-  | inl t ↦ rw t (record { few = f; once = (apart_iff a b).to (p, q); single = omega (arith, leb-true (m + n) 1 t) })
-  | inr t ↦ rw t (λ s. omega (arith, s.single, leb-false (m + n) 1 t))
-]
 
 -- the rows are the two halves
 pub halves : {most : ℕ} (w : List ℕ) (m n : ℕ) → m ≤ n → Iff (GroupsSound most (recs row_size read_row n w)) (GroupsSound most (rows_in w 0 m ++ rows_in w m n))

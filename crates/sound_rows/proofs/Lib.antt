@@ -1,5 +1,6 @@
 pub mod Decide
 pub mod Ranges
+pub mod Quads
 pub mod Rows
 pub mod Ahead
 pub mod Groups

@@ -1,13 +1,12 @@
 -- A walk along the rows decides what FlatSound says of each row and of neighbours.
-use Prim.Native.Nat.{ℕ, ◌+◌, ◌*◌, ◌<◌}
+use Prim.Native.Nat.{ℕ, ◌+◌, ◌≤◌, ◌<◌}
 use mathlib.Core.Path.{◌≡◌, refl, sym, ◌∙◌}
 use mathlib.Core.Logic.{inl, inr}
-use mathlib.Core.Bool.{true, false}
+use mathlib.Core.Bool.{Bool, true, false, ◌&&◌}
 use mathlib.Core.List.{List, [], ◌∷◌}
 use native.Mathlib.Nat.{le_refl, le_antisymm, le_of_lt, lt_irrefl, not-le_of_lt}
 use native.Mathlib.Omega.{arith}
 use lib.Dec.{ltb, eqb}
-use lib.ListN.{take, drop}
 use borrow.Author.Tests.{ltb-true, ltb-false, eqb-true, eqb-false}
 use Rattle.ident.specs.Number.{place}
 use Rattle.words.specs.Words.{recs, Decides}
@@ -19,7 +18,8 @@ use Rattle.store.specs.Gather.{key_at}
 use Rattle.store.specs.FlatSound.{mark_bit, RowFits, Ascending, MarkedAs}
 use Rattle.store.proofs.Keys.{row_number}
 use Rattle.sound_rows.specs.Rows.{RowPlain, Follows, RowsSound}
-use Rattle.sound_rows.proofs.Decide.{Iff, Chain, rest, rest_all, rest_turn}
+use Rattle.sound_rows.specs.Groups.{row_at}
+use Rattle.sound_rows.proofs.Decide.{Iff, Chain, rest, rest_all, rest_turn, Walk, walk_turn, walk_stop, walk_end}
 use Rattle.sound_rows.proofs.Ranges.{RowRanges}
 
 -- ---- the walk
@@ -60,12 +60,12 @@ chained p (r ∷ rs) b = (
 )
 
 -- the walk starts with the first row behind itself
-pub rows-sound : (r : Row) (rs : List Row) → Iff (Chain RowStep r (r ∷ rs)) (RowsSound (r ∷ rs))
+rows-sound : (r : Row) (rs : List Row) → Iff (RowsSound (r ∷ rs)) (Chain RowStep r (r ∷ rs))
 unfolding Chain
 rows-sound r rs = record {
-  to = λ c. let b = behind r rs c.1 in
+  to = λ s. (record { fit = s.fit.0; follows = follows_self r }, chained r rs (record { fit = s.fit.1; ascending = s.ascending.1; marks = s.marks }));
+  from = λ c. let b = behind r rs c.1 in
       record { fit = (c.0.fit, b.fit); ascending = (omega arith, b.ascending); marks = b.marks };
-  from = λ s. (record { fit = s.fit.0; follows = follows_self r }, chained r rs (record { fit = s.fit.1; ascending = s.ascending.1; marks = s.marks }));
 }
 
 -- the last test of a row behind another: keys that are neither less nor greater are equal
@@ -88,13 +88,37 @@ follows_not p r b f =
     let l : place (key_at r) < place (key_at p) = rw (← (row_number p), ← (row_number r)) (ltb-true _ _ b) in
     not-le_of_lt l f.order
 
-pub rows_iff : (w : List ℕ) (n : ℕ) {p : Row} → 0 < n → p ≡ read_row (take row_size (drop (row_size * 0) w))
-    → Iff (Chain RowStep p (recs row_size read_row n w)) (RowsSound (recs row_size read_row n w))
+rows_iff : (w : List ℕ) (n : ℕ) {p : Row} → 0 < n → p ≡ row_at w 0 → Walk RowStep row_size read_row n w (RowsSound (recs row_size read_row n w)) p 0
 rows_iff w n {p} h e =
-    let q : recs row_size read_row n w ≡ read_row (take row_size (drop (row_size * 0) w)) ∷ rest row_size read_row n (0 + 1) w = sym (rest_all row_size read_row n w)
-    ∙ rest_turn row_size read_row n 0 w h in
-    rw (e, q) (rows-sound _ _)
+    let t : rest row_size read_row n 0 w ≡ row_at w 0 ∷ rest row_size read_row n (0 + 1) w = rest_turn row_size read_row n 0 w h in
+    let q : recs row_size read_row n w ≡ row_at w 0 ∷ rest row_size read_row n (0 + 1) w = sym (rest_all row_size read_row n w) ∙ t in
+    rw (e, q, t) (rows-sound _ _)
 
 pub rows_none : (w : List ℕ) → RowsSound (recs row_size read_row 0 w)
 unfolding recs
 rows_none w = record { fit = tt; ascending = tt; marks = tt }
+
+-- ---- the walk goes on behind a row that is not fit
+
+module _ (w : List ℕ) (n : ℕ) (X : Type 0) where
+  -- if b, X holds exactly if the rows from i on are fit to stand behind p; else it does not hold
+  abbrev pub Going : Bool → Row → ℕ → Type 0
+  Going true p i = Walk RowStep row_size read_row n w X p i
+  Going false p i = X → ⊥
+
+  pub going_turn : (b x y : Bool) (p : Row) {r : Row} (i : ℕ) → i < n → Going b p i → r ≡ row_at w i → RowRanges r → Decides x (RowPlain r) → Decides y (Follows p r)
+      → Going ((b && x) && y) r (i + 1)
+  going_turn false x y p i h v e g d f = v
+  going_turn true false y p i h v e g d f = walk_stop RowStep row_size read_row n w p i h v e (λ t. d (row_plain t.fit))
+  going_turn true true false p i h v e g d f = walk_stop RowStep row_size read_row n w p i h v e (λ t. f t.follows)
+  going_turn true true true p i h v e g d f = walk_turn RowStep row_size read_row n w p i h v e (record { fit = row_fits g d; follows = f })
+
+  pub going_end : (b : Bool) (p : Row) (i : ℕ) → n ≤ i → Going b p i → Decides b X
+  going_end true p i h v = walk_end RowStep row_size read_row n w p i h v
+  going_end false p i h v = v
+
+module _ (w : List ℕ) (n : ℕ) where
+  -- the first row behind itself
+  pub going_first : (x : Bool) {r : Row} → 0 < n → r ≡ row_at w 0 → RowRanges r → Decides x (RowPlain r) → Going w n (RowsSound (recs row_size read_row n w)) x r 1
+  going_first true {r} h e g d = going_turn w n _ true true true r 0 h (rows_iff w n h e) e g d (follows_self r)
+  going_first false {r} h e g d = going_turn w n _ true false true r 0 h (rows_iff w n h e) e g d (follows_self r)

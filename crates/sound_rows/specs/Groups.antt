@@ -1,7 +1,8 @@
 -- What the test of the rows of one hash decides, in the words of FlatSound, and what its parts decide.
-use Rattle.std.specs.Prelude.{ℕ, ◌+◌, ◌-◌, ◌*◌, ◌%◌, ◌≤◌, ◌<◌, ◌≡◌, ◌⊎◌, Bool, true, false, ◌&&◌, List, [], ◌∷◌, eqb, length, take, drop, get_or}
+use Rattle.std.specs.Prelude.{ℕ, ◌+◌, ◌-◌, ◌*◌, ◌%◌, ◌≤◌, ◌<◌, ◌≡◌, ◌⊎◌, true, ◌&&◌, List, [], ◌∷◌, eqb, length, take, drop, get_or}
 use Rattle.words.specs.Words.{recs}
 use Rattle.regions.specs.declared.Row.{Row}
+use Rattle.sound_rows.specs.declared.group.Found.{Found}
 use Rattle.regions.specs.Rows.{row_size, read_row}
 use Rattle.store.specs.FlatSound.{count_rows, hash_at, owns}
 
@@ -58,12 +59,25 @@ conn_slots = 1024
 abbrev pub ConnsMarked : ℕ → List ℕ → List Row → Type 0
 ConnsMarked v t rs = (x : ℕ) → 0 < rows_by x rs → get_or t (x % conn_slots) 0 ≡ v
 
--- if true: the rows from .. to are apart from each other and from those that were marked, and are marked
-abbrev pub Marking : Bool → List ℕ → ℕ → ℕ → ℕ → List ℕ → List ℕ → Type 0
-Marking true w from to v t t' = (others : List Row) → ConnsMarked v t others → Apart others (rows_in w from to) × ConnsMarked v t' (rows_in w from to)
-Marking false w from to v t t' = Unit {0}
+-- no connection is in two of the rows a and b, said by how many rows it has
+abbrev pub Distinct : List Row → List Row → Type 0
+Distinct a b = (n : ℕ) → rows_by n a + rows_by n b ≤ 1
+
+-- the slots t have become t': if other rows were marked, and are of distinct connections, the rows from .. to are so too beside them, and are marked
+abbrev pub Marking : List ℕ → ℕ → ℕ → ℕ → List ℕ → List ℕ → Type 0
+Marking w from to v t t' = (others : List Row) → ConnsMarked v t others → Distinct others [] → Distinct others (rows_in w from to) × ConnsMarked v t' (rows_in w from to)
+
+-- what a walk from the row `from` along those of the hash h has found
+pub record Walked (w : List ℕ) (from to h v : ℕ) (t t' : List ℕ) (r : Found) : Type 0 where
+  pub least : from ≤ r.to
+  pub most : r.to ≤ to
+  pub same : (k : ℕ) → from ≤ k → k < r.to → hash_at (row_at w k) ≡ h
+  pub past : r.to < to → hash_at (row_at w r.to) ≡ h → ⊥
+  pub owners : r.owners ≡ count_rows owns (rows_in w from r.to)
+  pub few : r.owners ≤ r.to - from
+  pub once : r.once ≡ true → Marking w from r.to v t t'
 
 pub record GroupFits (most : ℕ) (a b : List Row) : Type 0 where
   pub few : length a + length b ≤ most
-  pub once : (n : ℕ) → rows_by n a + rows_by n b ≤ 1
+  pub once : Distinct a b
   pub single : count_rows owns a + count_rows owns b ≤ 1

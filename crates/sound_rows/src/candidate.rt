@@ -39,23 +39,20 @@ fn follows(p: regions::Row, r: regions::Row) -> bool
     ahead(u64::from(p.kind()), u64::from(r.kind()), w3)
 }
 
-// Whether each row is fit, keys do not fall, and rows of one key have one mark.
+// Whether each row is fit, keys do not fall, and rows of one key have one mark. (To the last row, whatever was found, and the row before is read anew: with a way out of the loop for
+// each test the compiler keeps more than the registers hold, and 10,000 rows take 88 µs in place of 55. Of a closure that changes what it was told `all` would say nothing.)
 pub fn rows_fit(rows: regions::listed::Records<regions::Row>) -> bool
     ensures { Decides result (RowsSound (recs row_size read_row rows.entry.count (words rows.entry.bytes.now))) }
 {
     if rows.count == 0 {
         return true;
     }
-    let mut p = rows.get(0); // the row before: of a closure that changes it, `all` would say nothing
-    for i in 0..rows.count {
+    let first = rows.get(0);
+    let mut fit = row_fits(first);
+    for i in 1..rows.count {
+        let p = rows.get(i - 1);
         let r = rows.get(i);
-        if !row_fits(r) {
-            return false;
-        }
-        if !follows(p, r) {
-            return false;
-        }
-        p = r;
+        fit = fit & row_fits(r) & follows(p, r);
     }
-    true
+    fit
 }

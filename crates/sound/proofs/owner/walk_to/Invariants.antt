@@ -1,5 +1,8 @@
-use Prim.Native.Nat.{◌≤◌}
+use Prim.Native.Nat.{◌-◌, ◌≤◌}
 use Rattle.sound.proofs.owner.walk_to.Given as goal
 
-abbrev pub invariant-loop-i : goal.invariant-loop-i
-invariant-loop-i l = l.at ≤ l.i
+abbrev pub invariant-loop-lo : goal.invariant-loop-lo
+invariant-loop-lo l = l.hi ≤ l.rows.count
+
+abbrev pub decreases-loop-lo : goal.decreases-loop-lo
+decreases-loop-lo l = l.hi - l.lo

@@ -1,5 +1,4 @@
 use native.Mathlib.Omega.{arith}
-use Prim.Native.Nat.{◌+◌}
 use Rattle.words.specs.Words.{words}
 use Rattle.sound_rows.specs.Parts.{rows_of}
 use Rattle.sound_rows.proofs.Groups.{apart-later, apart-others, found-some}

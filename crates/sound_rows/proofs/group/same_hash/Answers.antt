@@ -1,6 +1,6 @@
 use native.Mathlib.Omega.{arith}
-use Rattle.sound.proofs.Hashes.{quads_decide}
-use Rattle.sound.proofs.place.same_hash.Goals as goal
+use Rattle.sound_rows.proofs.Quads.{quads_decide}
+use Rattle.sound_rows.proofs.group.same_hash.Goals as goal
 
 pub returns : goal.returns
 returns c = quads_decide c.args.a c.args.b
