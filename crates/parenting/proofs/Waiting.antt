@@ -5,7 +5,6 @@ use mathlib.Core.Bool.{Bool, true, false, ◌||◌}
 use mathlib.Core.List.{List, [], ◌∷◌, ◌++◌, map-append}
 use mathlib.Core.Option.{some}
 use native.Mathlib.Omega.{arith}
-use lib.Dec.{leb}
 use lib.ListN.{length, drop, get_or, drop_of_length-le}
 use lib.Seq.{drop-cons}
 use denote.Laws.{Is}
@@ -15,9 +14,9 @@ use Rattle.ident.specs.Number.{top, Key, txid, wtxid, key_of}
 use Rattle.regions.specs.declared.Row.{Row}
 use Rattle.regions.specs.Regions.{Holds, Found}
 use Rattle.regions.specs.Rows.{row_size, row_words, read_row}
-use Rattle.machine.specs.Limits.{Limits, max_peer_announcements, word}
+use Rattle.machine.specs.Limits.{Limits, word}
 use Rattle.machine.specs.State.{Candidate, Entry, Table, State, Answer, limits_of, on_table, done}
-use Rattle.machine.specs.Table.{one, at, has, count, held_by, is_candidate}
+use Rattle.machine.specs.Table.{one, at, has, count}
 use Rattle.machine.specs.Announce.{push, announce_keyed, request_parent_at}
 use Rattle.machine.specs.Fail.{parent_of, mark}
 use Rattle.machine.specs.Sound.{Fits, Sound, Bounded}
@@ -37,7 +36,7 @@ use Rattle.gathering.specs.declared.beside.Fare.TheVariants.{Nothing, Waits as W
 use Rattle.gathering.specs.contracts.beside.FarePartialEq.TheImpl.{eq-value}
 use Rattle.gathering.specs.Counted.{then_wait}
 use Rattle.gathering.specs.Merges.{gathered}
-use Rattle.gathering.specs.Waits.{pushes, waits}
+use Rattle.gathering.specs.Waits.{pushes}
 use Rattle.gathering.specs.Aside.{space, Empty, Aside, Joined, Enters, SetAside, ComeIn}
 use Rattle.gathering.proofs.ComingIn.{length-gathered}
 use Rattle.gathering.proofs.OneMore.{each_more}
