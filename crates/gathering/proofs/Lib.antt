@@ -5,7 +5,9 @@ pub mod Turning
 pub mod ComingIn
 pub mod InOrder
 pub mod Looking
+pub mod OneMore
 pub mod Faring
+pub mod CountingIn
 pub mod Arriving
 pub mod Elsewhere
 pub mod Deferral
