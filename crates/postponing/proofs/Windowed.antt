@@ -19,7 +19,7 @@ use Rattle.store.proofs.Frame.{sizes}
 use Rattle.requests.specs.Changes.{Shorn}
 use Rattle.announcing.specs.Drops.{kept_row}
 use Rattle.announcing.proofs.DroppingRows.{Dropping}
-use Rattle.apart.specs.Silent.{is_due, TestsIn, Tested}
+use Rattle.postponing.specs.Silent.{is_due, TestsIn, Tested}
 
 -- every row is in the window
 pub all_tests : {b : List ℕ} {n : ℕ} (now : ℕ) → n ≡ rows_in b → TestsIn b now 0 n (is_due now)

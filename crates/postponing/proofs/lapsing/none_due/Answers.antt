@@ -1,4 +1,4 @@
--- `wrapping::lapsing::none_due` meets its contract: a scan of the rows.
+-- `postponing::lapsing::none_due` meets its contract: a scan of the rows.
 use Prim.Native.Nat.{◌-◌}
 use mathlib.Core.Path.{◌≡◌, refl, ◌∙◌}
 use mathlib.Core.List.{[]}
@@ -7,8 +7,8 @@ use Rattle.std.proofs.Common.{rules, tests}
 use Rattle.std.proofs.lemmas.Iterator.{YieldsList-from_range}
 use Rattle.std.proofs.lemmas.Iterator.Search.{all_from_yields_List}
 use Rattle.regions.specs.Rows.{read_row}
-use Rattle.wrapping.proofs.LapsedRows.{undue_at, none_by}
-use Rattle.wrapping.proofs.lapsing.none_due.Goals as goal
+use Rattle.postponing.proofs.LapsedRows.{undue_at, none_by}
+use Rattle.postponing.proofs.lapsing.none_due.Goals as goal
 
 pub returns : goal.returns
 returns c = λ f w e.

@@ -16,12 +16,12 @@ use Rattle.regions.specs.Regions.{each}
 use Rattle.regions.specs.Rows.{quad_of}
 use Rattle.places.specs.Places.{Place}
 use Rattle.regions.proofs.Regions.{each_append}
-use Rattle.machine.specs.State.{Candidate, Owner, Request, Table, State, on_table, with_candidates, unowned, owner_is}
+use Rattle.machine.specs.State.{Candidate, Owner, Package, Request, Table, State, on_table, with_candidates, unowned, owner_is}
 use Rattle.machine.specs.Table.{keep, has, count_in}
 use Rattle.machine.specs.Announce.{without}
 use Rattle.machine.specs.Sound.{All, Filled, Sound}
 use Rattle.machine.proofs.Tests.{test, never, and_left}
-use Rattle.store.specs.Flat.{own_bit, bits_of, witness_bit, deadline_for, row_of, rows_for, rows_of, places_for, places_of, tally}
+use Rattle.store.specs.Flat.{own_bit, bits_of, witness_bit, deadline_for, row_of, rows_for, rows_of, place_for, places_for, places_of, tally}
 use Rattle.store.specs.FlatSound.{owns}
 use Rattle.store.specs.Gather.{key_at}
 use Rattle.store.specs.Image.{Writes}
@@ -30,9 +30,20 @@ use Rattle.store.proofs.Counts.{Distinct, DistinctIn, in_hasnt, distinct_in}
 use Rattle.requests.specs.Changes.{Shorn}
 use Rattle.requests.proofs.Keeping.{writes_by}
 use Rattle.announcing.specs.Drops.{kept_row}
+use Rattle.failing.specs.Changes.{readied}
 use Rattle.announcing.proofs.DroppingRows.{row_goes, row_stays}
-use Rattle.apart.specs.Silent.{owner_num}
-use Rattle.apart.specs.Silent.{late, gone, dropped_in, dropped_all, Unburdened, is_due}
+use Rattle.postponing.specs.Silent.{owner_num, late, gone, dropped_in, dropped_all, Unburdened, is_due}
+
+-- ---- candidates made ready keep the place
+
+ready-place : (now : ℕ) (r : Request) (i : Bool) (p : Option Package) → place_for (readied now r) i p ≡ place_for r i p
+ready-place now r i (some p) = refl
+ready-place now r true none = refl
+ready-place now r false none = refl
+
+pub ready_none : (now : ℕ) (r : Request) → places_for r ≡ [] → places_for (readied now r) ≡ []
+unfolding places_for
+ready_none now r e = ready-place now r r.info r.«package» ∙ e
 
 -- ---- the owners at the keys that pass p
 

@@ -1,8 +1,8 @@
--- `apart::silent::drop_within` meets its contract.
+-- `postponing::silent::drop_within` meets its contract.
 use native.Mathlib.Omega.{arith}
 use Rattle.announcing.proofs.DroppingRows.{dropping_rows, dropping_shown, dropping_more}
-use Rattle.apart.proofs.Windowed.{window-starts, window_row, window-ends, window_whole}
-use Rattle.apart.proofs.silent.drop_within.Goals as goal
+use Rattle.postponing.proofs.Windowed.{window-starts, window_row, window-ends, window_whole}
+use Rattle.postponing.proofs.silent.drop_within.Goals as goal
 
 pub loop-i-init : goal.loop-i-init
 loop-i-init c = λ q t. window-starts c.args.w.order c.requires.1.most t

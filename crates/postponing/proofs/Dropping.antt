@@ -15,7 +15,7 @@ use Rattle.std.specs.Prelude.{if◌then◌else◌}
 use Rattle.ident.specs.Number.{top, Key, place, other, txid, wtxid}
 use Rattle.ident.proofs.Places.{place_same as place-inj}
 use Rattle.machine.specs.Limits.{Limits, word}
-use Rattle.machine.specs.State.{Candidate, Owner, Request, Table, with_candidates, unowned, ready_at, owner_is, enqueued_in, is_some}
+use Rattle.machine.specs.State.{Candidate, Owner, Package, Request, Table, with_candidates, unowned, ready_at, owner_is, enqueued_in, is_some}
 use Rattle.machine.specs.Table.{at, keep, change, has, count_in}
 use Rattle.machine.specs.Announce.{without}
 use Rattle.machine.specs.Fail.{releasable, left, failed}
@@ -34,14 +34,12 @@ use Rattle.machine.proofs.Leaving.{count-has as in-has}
 use Rattle.store.proofs.Counts.{in_hasnt}
 use Rattle.package_stages.specs.Changes.{has_place}
 use Rattle.requests.proofs.AtHash.{at-hash}
-use Rattle.apart.specs.Silent.{owner_num}
 use Rattle.failing.proofs.Fusing.{GivesNone, change_fuse, change_same}
 use Rattle.failing.proofs.Leaving.{without-ready}
-use Rattle.handing.specs.Hands.{readied}
+use Rattle.failing.specs.Changes.{readied}
 use Rattle.announcing.proofs.Swapping.{change-swap}
-use Rattle.apart.specs.Silent.{fail_each, readied_both, ready_each, late, gone, dropped_in, due_by}
-use Rattle.apart.proofs.Overdue.{none_packaged}
-use Rattle.apart.proofs.DroppedTables.{dropped_by}
+use Rattle.postponing.specs.Silent.{fail_each, readied_both, ready_each, late, owner_num, gone, dropped_in, due_by}
+use Rattle.postponing.proofs.DroppedTables.{dropped_by}
 
 -- ---- dropping one and readying, in either order
 
@@ -153,6 +151,11 @@ Owned t ds = Each (λ (d : Due). owner_is d.connection (at d.key t).owner ≡ tr
 -- none of them has a place
 abbrev pub Free : Table → List Due → Type 0
 Free t ds = Each (λ (d : Due). has_place (at d.key t) ≡ false) ds
+
+pub none_packaged : (i : Bool) (q : Option Package) → (i || is_some q) ≡ false → enqueued_in q ≡ false
+none_packaged true q e = never (sym e)
+none_packaged false (some p) e = never (sym e)
+none_packaged false none e = refl
 
 pub calm : (r : Request) → has_place r ≡ false → enqueued_in r.«package» ≡ false
 calm r f = none_packaged r.info r.«package» f

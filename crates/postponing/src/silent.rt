@@ -6,7 +6,7 @@ ghost use Rattle.store.specs.Flat.{Flat};
 ghost use Rattle.store.specs.Image.{Shows};
 ghost use Rattle.store.specs.Shown.{rows_in, Shown, Kept};
 ghost use Rattle.requests.specs.Changes.{Makes};
-ghost use Rattle.apart.specs.Silent.{Unburdened, dropped_all, is_due, RowDropped, Tested, DropsIn};
+ghost use Rattle.postponing.specs.Silent.{Unburdened, dropped_all, is_due, RowDropped, Tested, DropsIn};
 
 use store::rows::Window;
 

@@ -1,8 +1,8 @@
--- `apart::silent::drop_due` meets its contract.
-use Rattle.apart.specs.Silent.{is_due}
-use Rattle.apart.proofs.DroppedTables.{dropped-writes}
-use Rattle.apart.proofs.Windowed.{all_tests, all_tested}
-use Rattle.apart.proofs.silent.drop_due.Goals as goal
+-- `postponing::silent::drop_due` meets its contract.
+use Rattle.postponing.specs.Silent.{is_due}
+use Rattle.postponing.proofs.DroppedTables.{dropped-writes}
+use Rattle.postponing.proofs.Windowed.{all_tests, all_tested}
+use Rattle.postponing.proofs.silent.drop_due.Goals as goal
 
 pub drop_within-requires : goal.drop_within-requires
 drop_within-requires c = (c.requires, all_tested c.args.clock c.rows.ensures.word)

@@ -1,11 +1,11 @@
--- `wrapping::lapsing::lapse` meets its contract.
+-- `postponing::lapsing::lapse` meets its contract.
 use Prim.Native.Nat.{◌<◌}
 use native.Mathlib.Omega.{arith}
 use Rattle.ident.specs.Words.{key_num}
 use Rattle.ident.proofs.Words.{key-four, hash_below}
 use Rattle.machine.specs.Limits.{word}
-use Rattle.wrapping.proofs.LapsedSteps.{lapse_first, lapse_second, lapse_third, lapse_makes}
-use Rattle.wrapping.proofs.lapsing.lapse.Goals as goal
+use Rattle.postponing.proofs.LapsedSteps.{lapse_first, lapse_second, lapse_third, lapse_makes}
+use Rattle.postponing.proofs.lapsing.lapse.Goals as goal
 
 pub own-requires : goal.own-requires
 own-requires c =

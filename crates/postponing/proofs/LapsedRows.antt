@@ -21,8 +21,8 @@ use Rattle.machine.specs.Typed.{Each}
 use Rattle.machine.proofs.Tests.{test, never, and_left, and_right}
 use Rattle.store.specs.Flat.{deadline_for, row_of, rows_for, rows_of}
 use Rattle.store.proofs.Bits.{owns-row}
-use Rattle.apart.specs.Silent.{late, is_due}
-use Rattle.wrapping.specs.Lapses.{none_due, Timely}
+use Rattle.postponing.specs.Silent.{late, is_due}
+use Rattle.postponing.specs.Lapses.{none_due, Timely}
 
 -- the row says no owner with the deadline 0
 abbrev Undue : Row → Type 0

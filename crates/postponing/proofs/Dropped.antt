@@ -18,7 +18,7 @@ use Rattle.machine.proofs.First.{keep_some, change_first, change-later}
 use Rattle.machine.proofs.Table.{at_absent}
 use Rattle.machine.proofs.Tests.{test, by_test, order}
 use Rattle.failing.proofs.Fusing.{GivesNone, keep_none, change_none}
-use Rattle.apart.specs.Silent.{late, dropped_in, dropped_all}
+use Rattle.postponing.specs.Silent.{late, dropped_in, dropped_all}
 
 -- ---- a request that is kept if it has a candidate
 

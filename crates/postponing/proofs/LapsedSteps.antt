@@ -13,10 +13,10 @@ use Rattle.machine.proofs.Kept.{sound-table}
 use Rattle.store.specs.Image.{Writes}
 use Rattle.store.specs.Shown.{Kept}
 use Rattle.requests.specs.Changes.{Makes, Tells}
-use Rattle.handing.specs.Hands.{readied}
+use Rattle.failing.specs.Changes.{readied}
 use Rattle.failing.proofs.Leaving.{Clears, freed_sound, freed_kept}
-use Rattle.wrapping.specs.Lapses.{overdue, lapsed}
-use Rattle.wrapping.proofs.LapsedOwner.{owned_again, overdue_is, bounded_overdue, bounded_half}
+use Rattle.postponing.specs.Lapses.{overdue, lapsed}
+use Rattle.postponing.proofs.LapsedOwner.{owned_again, overdue_is, bounded_overdue, bounded_half}
 
 module _ {b b₁ : List ℕ} (k : Key) (s : k.hash < top) (n : ℕ) (own : Tells b (λ t. owner_is n (at k t).owner ≡ true)) (c : Clears b b₁ k n) where
   -- given back

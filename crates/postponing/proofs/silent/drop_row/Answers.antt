@@ -1,8 +1,8 @@
--- `apart::silent::drop_row` meets its contract.
+-- `postponing::silent::drop_row` meets its contract.
 use mathlib.Core.Path.{sym, ◌∙◌}
 use Rattle.announcing.proofs.DroppingRows.{drop_goes, drop_stays}
-use Rattle.apart.proofs.DroppedTables.{due-owns}
-use Rattle.apart.proofs.silent.drop_row.Goals as goal
+use Rattle.postponing.proofs.DroppedTables.{due-owns}
+use Rattle.postponing.proofs.silent.drop_row.Goals as goal
 
 pub returns-then-is_due : goal.returns-then-is_due
 returns-then-is_due c = λ q e. drop_goes q c.args.m c.args.i c.requires.3 (c.is_due.ensures ∙ sym e) c.if-is_due.true

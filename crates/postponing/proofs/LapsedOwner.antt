@@ -26,13 +26,13 @@ use Rattle.machine.proofs.Tests.{test, never, and_left, and_right}
 use Rattle.failing.proofs.Fusing.{change_fuse}
 use Rattle.failing.proofs.Leaving.{without-ready}
 use Rattle.store.specs.Flat.{places_for}
-use Rattle.handing.specs.Hands.{readied}
-use Rattle.handing.proofs.GivingBack.{shrinks_ready}
-use Rattle.apart.specs.Silent.{readied_both, late, owner_num, gone, dropped_in, dropped_all, Unburdened}
-use Rattle.apart.proofs.Dropping.{gone_none, both_swap, owner-has, failed_is}
-use Rattle.apart.proofs.Silence.{ready_none}
-use Rattle.wrapping.specs.Lapses.{lapses, overdue, lapsed}
-use Rattle.wrapping.proofs.Lapsed.{dropped_change, at_stays}
+use Rattle.failing.specs.Changes.{readied}
+use Rattle.failing.proofs.Readied.{shrinks_ready}
+use Rattle.postponing.specs.Silent.{readied_both, late, owner_num, gone, dropped_in, dropped_all, Unburdened}
+use Rattle.postponing.proofs.Dropping.{gone_none, both_swap, owner-has, failed_is}
+use Rattle.postponing.proofs.DroppedTables.{ready_none}
+use Rattle.postponing.specs.Lapses.{lapses, overdue, lapsed}
+use Rattle.postponing.proofs.Dropped.{dropped_change, at_stays}
 
 -- ---- candidates made ready, before owners go or behind them
 

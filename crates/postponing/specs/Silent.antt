@@ -16,7 +16,7 @@ use Rattle.store.specs.Image.{Writes}
 use Rattle.store.specs.Shown.{rows_in}
 use Rattle.requests.specs.Changes.{Shorn}
 use Rattle.announcing.specs.Drops.{kept_row, RowKept}
-use Rattle.handing.specs.Hands.{readied}
+use Rattle.failing.specs.Changes.{readied}
 
 -- ---- the machine: one after the other
 

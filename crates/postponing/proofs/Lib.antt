@@ -1,0 +1,7 @@
+pub mod DroppedTables
+pub mod Windowed
+pub mod Dropping
+pub mod Dropped
+pub mod LapsedOwner
+pub mod LapsedSteps
+pub mod LapsedRows
