@@ -17,7 +17,7 @@ use Rattle.store.proofs.Frame.{sizes, shown}
 use Rattle.requests.proofs.Keeping.{kept_shown, rows_in_order, conns_in_order, sized_of, light_of}
 use Rattle.gathering.specs.Merges.{merged, gathered, RowsAdded}
 use Rattle.gathering.specs.Waits.{pushes}
-use Rattle.gathering.specs.Aside.{space, Aside, Gathers, ComeIn}
+use Rattle.gathering.specs.Aside.{space, Mixed, Gathers, ComeIn}
 use Rattle.gathering.proofs.ComingIn.{came_in}
 use Rattle.gathering.proofs.InOrder.{sorted-gathered}
 use Rattle.gathering.proofs.Looking.{few_rows}
@@ -26,10 +26,10 @@ use Rattle.gathering.proofs.Merging.{length_merged}
 pub nobody_in : {b w : List ℕ} {n m : ℕ} → m ≡ 0 → ComeIn b b n w m
 unfolding pushes
 nobody_in e st s g [] a = g
-nobody_in e st s g (x ∷ es) a = absurd (omega (arith, a.count))
+nobody_in e st s g (x ∷ es) a = absurd (omega (arith, a.mixed.count))
 
 -- rows with those of es, whatever sound state the bytes write
-with_rows_lem : {b b₁ w : List ℕ} {n m : ℕ} → RowsAdded b b₁ w m → (st : State) → Sound st → Writes b st → {es : List Entry} → Aside n st.table es w m
+with_rows_lem : {b b₁ w : List ℕ} {m : ℕ} → RowsAdded b b₁ w m → (st : State) → Sound st → Writes b st → {es : List Entry} → Mixed st.table es w m
     → Shows b₁ (with_rows (merged (rows_of st.table) (gathered st.table es [])) (flat_of st))
 with_rows_lem r st s g {es} a = r (flat_of st) g (rows_in_order st s) space (gathered st.table es []) (few_rows a) (sorted-gathered st.table es) a.rows
 
@@ -42,11 +42,11 @@ module _ {b w : List ℕ} {n m : ℕ} (g : Gathers b n w m) where
   pub with_shown : {b₁ : List ℕ} → RowsAdded b b₁ w m → (m ≡ 0 → ⊥) → Shown b₁ × (conns_in b₁ < limit_in b₁) × (1 ≤ m) × (m ≤ max_announcements)
   with_shown r p =
       let st = g.state in
-      let h = with_rows_lem r st g.sound g.writes g.aside in
+      let h = with_rows_lem r st g.sound g.writes g.aside.mixed in
       let z = sized_of st g.sound in
       let y = sizes h in
       let n = length_merged (rows_of st.table) (gathered st.table g.entries []) in
-      let l = few_rows g.aside in
+      let l = few_rows g.aside.mixed in
       let q = held-rows st.table in
       let few : length (rows_of st.table) + m ≤ st.limit = omega (arith, g.room) in (
         shown h (record { limit = z.limit; places = z.places; rows_few = omega arith; conns_few = z.conns_few; places_few = z.places_few }) (light_of st g.sound),
@@ -58,5 +58,5 @@ module _ {b w : List ℕ} {n m : ℕ} (g : Gathers b n w m) where
 pub arrived : {b b₁ b₂ w : List ℕ} {n m : ℕ} → RowsAdded b b₁ w m → Tallies b₁ b₂ (raise n m) → ComeIn b b₂ n w m
 arrived {b} {b₁} {b₂} {w} {n} {m} r k st s g es a =
     let t = st.table in
-    let h : Shows b₂ (with_conns (raise n m (tally (rows_of t))) (with_rows (merged (rows_of t) (gathered t es [])) (flat_of st))) = k _ (conns_in_order (rows_of t)) (with_rows_lem r st s g a) in
-    came_in n st s es a.ready a.idle (subst (λ (d : ℕ). Shows b₂ (with_conns (raise n d (tally (rows_of t))) (with_rows (merged (rows_of t) (gathered t es [])) (flat_of st)))) (sym a.count) h)
+    let h : Shows b₂ (with_conns (raise n m (tally (rows_of t))) (with_rows (merged (rows_of t) (gathered t es [])) (flat_of st))) = k _ (conns_in_order (rows_of t)) (with_rows_lem r st s g a.mixed) in
+    came_in st s es a.mixed.ready n a.mine a.mixed.idle (subst (λ (d : ℕ). Shows b₂ (with_conns (raise n d (tally (rows_of t))) (with_rows (merged (rows_of t) (gathered t es [])) (flat_of st)))) (sym a.mixed.count) h)

@@ -33,34 +33,17 @@ use Rattle.announcing.proofs.Entering.{fresh, cleared-sound}
 use Rattle.announcing.proofs.Giving.{first_greatest, first_goes, next_first}
 use Rattle.announcing.proofs.GoneTogether.{cuts_more, cuts-sound, cuts_left, cuts-fallen, cuts_held, cuts-count, victims_there}
 use Rattle.announcing.proofs.GoneBy.{each_front}
-use Rattle.gathering.specs.Waits.{pushes, Ready, waits, barred_beside}
+use Rattle.gathering.specs.Waits.{pushes, Small, waits, barred_beside}
 use Rattle.gathering.specs.Aside.{space, PutIn, Aside, RowIn}
 use Rattle.gathering.specs.Deferring.{Owing, left_by, ShutOut, Suited, Instead, Owed}
-use Rattle.gathering.proofs.Waiting.{ordered-pushes, pushes_more, waits_not, barred_out, taken-crowded, taken-evicting}
-use Rattle.gathering.proofs.Faring.{each_more, aside_more}
-use Rattle.gathering.proofs.Elsewhere.{cut-pushes, aside_still, victims-pushes}
-
--- ---- lists
-
--- one more waits
-waits_more : (h : ℕ) (es : List Entry) (a : Entry) → waits h es ≡ false → eqb a.key.hash h ≡ false → waits h (es ++ (a ∷ [])) ≡ false
-unfolding waits
-waits_more h [] a w e = ap (λ (b : Bool). b || false) e
-waits_more h (x ∷ es) a w e =
-    ap (λ (b : Bool). b || waits h (es ++ (a ∷ []))) (or_left (eqb x.key.hash h) (waits h es) w) ∙ waits_more h es a (or_right (eqb x.key.hash h) (waits h es) w) e
+use Rattle.gathering.proofs.Waiting.{ordered-pushes, pushes_more, barred_apart, barred_new, barred_out, taken-crowded, taken-evicting}
+use Rattle.gathering.proofs.OneMore.{each_more, waits_more, aside_more}
+use Rattle.gathering.proofs.Elsewhere.{at_pushes, cut-pushes, aside_still, victims-pushes}
 
 -- ---- at a hash where nobody waits
 
-at_pushes : (n : ℕ) (k : Key) → k.hash < top → (es : List Entry) (t : Table) → Each (Ready n) es → waits k.hash es ≡ false → at k (pushes es t) ≡ at k t
-unfolding pushes waits
-at_pushes n k s [] t a w = refl
-at_pushes n k s (e ∷ es) t a w =
-    at_pushes n k s es (push e.key e.candidate t) a.1 (or_right (eqb e.key.hash k.hash) (waits k.hash es) w)
-    ∙ at_other k e.key _ t (λ r. refl)
-    (λ q. eqb-false e.key.hash k.hash (or_left (eqb e.key.hash k.hash) (waits k.hash es) w) (ap (λ (j : Key). j.hash) (sym (place-inj k e.key s a.0.small q))))
-
-victims_pushed : (n h : ℕ) → h < top → (es : List Entry) (t : Table) → Each (Ready n) es → Ordered 0 t → waits h es ≡ false → victims (at_hash h) (pushes es t) ≡ victims (at_hash h) t
-victims_pushed n h s es t a o w = victims_there h s t (pushes es t) o (ordered-pushes n es t a o) (at_pushes n (txid h) s es t a w) (at_pushes n (wtxid h) s es t a w)
+victims_pushed : (h : ℕ) → h < top → (es : List Entry) (t : Table) → Each Small es → Ordered 0 t → waits h es ≡ false → victims (at_hash h) (pushes es t) ≡ victims (at_hash h) t
+victims_pushed h s es t a o w = victims_there h s t (pushes es t) o (ordered-pushes es t a o) (at_pushes (txid h) s es t a w) (at_pushes (wtxid h) s es t a w)
 
 at_cuts : (k : Key) → k.hash < top → (st : State) → Sound st → (vs ws : List Row) → Foremost (vs ++ ws) (rows_of st.table) → Each (λ (y : Row). eqb (key_at y).hash k.hash ≡ false) vs
     → at k (cuts vs st.table) ≡ at k st.table
@@ -164,7 +147,7 @@ module _ {b w v : List ℕ} {d m : ℕ} {st : State} {c : Candidate} (f : Owing 
   owed_not q = record {
     owing = f;
     same = ap (λ (a : Answer). a.table) q;
-    enters = λ l. absurd (omega (arith, f.aside.count));
+    enters = λ l. absurd (omega (arith, f.aside.mixed.count));
     stays = λ _. (refl, refl, ap (λ (a : Answer). a.reply) q);
   }
 
@@ -174,16 +157,17 @@ module _ {b w v : List ℕ} {d m : ℕ} {st : State} {c : Candidate} (f : Owing 
   unfolding evicting greatest
   out_same k small e p s =
       let l = limits_of st in
-      let a = f.aside.ready in
+      let a = f.aside.mixed.ready in
+      let q = f.aside.mine in
       let o = (left_sound f).bounded.ordered in
       elim (test (barred_beside f.entries k c.connection (left_by f))) [
-        | inl z ↦ barred_out l c f.entries (left_by f) a o k z
+        | inl z ↦ barred_out l c f.entries (left_by f) a q o k z
         | inr z ↦ elim s.either [
-          | inl i ↦ barred_out l c f.entries (left_by f) a o k (barred_same f k e ∙ i)
+          | inl i ↦ barred_out l c f.entries (left_by f) a q o k (barred_same f k e ∙ i)
           | inr i ↦
               let none_there : victims (at_hash k.hash) (pushes f.entries (left_by f)) ≡ [] =
-              victims_pushed c.connection k.hash small f.entries (left_by f) a o (waits_not l c f.entries (left_by f) a o k z) ∙ victims_same f k e small ∙ i.1 in
-              taken-crowded l c f.entries (left_by f) a o k z (le-leb l.alternates (held_at k.hash (left_by f)) (omega (arith, at_same f k e, i.0))) p
+              victims_pushed k.hash small f.entries (left_by f) a o (barred_apart f.entries k c.connection (left_by f) z) ∙ victims_same f k e small ∙ i.1 in
+              taken-crowded l c f.entries (left_by f) a q o k z (le-leb l.alternates (held_at k.hash (left_by f)) (omega (arith, at_same f k e, i.0))) p
               ∙ ap (λ (x : List Entry). evicting (greatest x) k c (pushes f.entries (left_by f))) none_there
         ]
       ]
@@ -228,14 +212,14 @@ module _ {b w v : List ℕ} {d m : ℕ} {st : State} (c : Candidate) (f : Owing 
           let u = left_by f in
           let s = left_sound f in
           let left = drop (suc d) f.listed.rows in
-          let full : leb st.limit (held u + length f.entries) ≡ true = le-leb st.limit (held u + length f.entries) (omega (arith, left_held f, f.aside.count)) in
+          let full : leb st.limit (held u + length f.entries) ≡ true = le-leb st.limit (held u + length f.entries) (omega (arith, left_held f, f.aside.mixed.count)) in
           let room : leb (limits_of st).alternates (held_at k.hash u) ≡ false = lt-leb (limits_of st).alternates (held_at k.hash u) (omega (arith, at_same f k split.0, x.room)) in
           let goes : greatest (victims anywhere (pushes f.entries u)) ≡ some (entry_at y) =
           ap greatest (victims-pushes f.entries u f.preferred) ∙ first_greatest (on_table u st) s y left here in
           let small-y = (first_goes (on_table u st) s y left here).small in
-          ap (λ (a : Answer). a.table) (taken-evicting (limits_of st) c f.entries u f.aside.ready s.bounded.ordered k free room full p
+          ap (λ (a : Answer). a.table) (taken-evicting (limits_of st) c f.entries u f.aside.mixed.ready f.aside.mine s.bounded.ordered k free room full p
           ∙ ap (λ (o : Option Entry). evicting o k c (pushes f.entries u)) goes)
-          ∙ ap (push k c) (cut-pushes (key_at y) y.conn small-y c.connection f.entries u f.aside.ready x.apart s.bounded.ordered s.bounded.filled)
+          ∙ ap (push k c) (cut-pushes (key_at y) y.conn small-y f.entries u f.aside.mixed.ready x.apart s.bounded.ordered s.bounded.filled)
           ∙ sym (pushes_more f.entries new (cut (key_at y) y.conn u))
           ∙ ap (pushes (f.entries ++ (new ∷ []))) (sym (ap (λ (vs : List Row). cuts vs st.table) one_more_lem ∙ cuts_more (take d f.listed.rows) y st.table))
 
@@ -259,9 +243,7 @@ module _ {b w v : List ℕ} {d m : ℕ} {st : State} (c : Candidate) (f : Owing 
           → Owed b w' v (d + 1) m (some k) c st f.entries (left_by f)
       owed_in {w'} {z} mine sp row put =
           let es = f.entries in
-          let unknown : is_candidate c.connection k.hash st.table ≡ false = or_left (is_candidate c.connection k.hash st.table) (waits k.hash es)
-          (or_left (is_candidate c.connection k.hash st.table || waits k.hash es) (leb max_peer_announcements (held_by c.connection st.table + length es)) (x.free)) in
-          let i = fresh st f.sound k small c.connection unknown in
+          let i = fresh st f.sound k small c.connection (barred_new es k c.connection st.table x.free) in
           let P : List Entry → Row → Type 0 = λ l r. (waits (key_at r).hash l ≡ false) × (eqb r.conn c.connection ≡ false) in
           let apart : Each (P (es ++ (new ∷ []))) (take d f.listed.rows ++ (y ∷ [])) =
           Each-both (P (es ++ (new ∷ []))) (take d f.listed.rows) (y ∷ []) (later (take d f.listed.rows) f.apart split.0)
@@ -274,14 +256,14 @@ module _ {b w v : List ℕ} {d m : ℕ} {st : State} (c : Candidate) (f : Owing 
               listed = f.listed;
               few = omega arith;
               entries = es ++ (new ∷ []);
-              aside = aside_more k c f.aside small sp i (row st f.sound f.writes i) put;
+              aside = aside_more k c small f.aside sp (barred_apart es k c.connection st.table x.free) i (row st f.sound f.writes i) put;
               preferred = each_more (λ (a : Entry). a.candidate.preferred ≡ true) es new f.preferred p;
               apart = subst (Each (P (es ++ (new ∷ [])))) (sym one_more_lem) apart;
             };
             same = table_is;
             enters = λ _ i q. let e : k ≡ i = cc in
                 subst (λ (l : Key). Instead (limits_of st) (left_by f) es l c (es ++ (new ∷ [])) (cuts (take (d + 1) f.listed.rows) st.table)) e instead;
-            stays = λ q. absurd (omega (arith, f.aside.count));
+            stays = λ q. absurd (omega (arith, f.aside.mixed.count));
           }
         where
           later : (vs : List Row) → Each (λ (r : Row). (waits (key_at r).hash f.entries ≡ false) × (eqb r.conn c.connection ≡ false)) vs

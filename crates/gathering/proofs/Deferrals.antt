@@ -104,7 +104,7 @@ module _ {b w v : List ℕ} {d : ℕ} {k : Key} {c : Candidate} {y : Row} (p : c
       suited = λ st s g es a. record {
         free = sym (q st s g es a) ∙ e;
         room = leb-false (limits_of st).alternates (held_at k.hash st.table) (sym (crowd st s g) ∙ few);
-        apart = ap (λ (j : ℕ). waits j es) (sym i) ∙ sym (wait c.connection st.table s.bounded.ordered es a) ∙ u;
+        apart = ap (λ (j : ℕ). waits j es) (sym i) ∙ sym (wait st.table s.bounded.ordered es a.mixed) ∙ u;
       };
     };
   }

@@ -1,6 +1,6 @@
--- Candidates wait beside the table, and one goes at another hash than theirs: the order of what is done does not matter.
+-- Candidates wait beside the table, and a request at another hash than theirs is changed: the order of what is done does not matter.
 use Prim.Native.Nat.{ℕ, ◌<◌}
-use mathlib.Core.Path.{◌≡◌, refl, sym, ap, ◌∙◌}
+use mathlib.Core.Path.{◌≡◌, refl, sym, ap, subst, ◌∙◌}
 use mathlib.Core.Bool.{true, false}
 use mathlib.Core.List.{List, [], ◌∷◌, ◌++◌}
 use native.Mathlib.Omega.{arith}
@@ -9,55 +9,78 @@ use borrow.Author.Tests.{eqb-false}
 use Rattle.ident.specs.Number.{top, Key, place}
 use Rattle.ident.proofs.Places.{place_same as place-inj}
 use Rattle.regions.specs.declared.Row.{Row}
-use Rattle.machine.specs.State.{Entry, Table, with_candidates}
-use Rattle.machine.specs.Table.{at}
+use Rattle.regions.specs.Regions.{Holds}
+use Rattle.regions.specs.Rows.{row_size, row_words}
+use Rattle.machine.specs.State.{Entry, Request, Table, with_candidates}
+use Rattle.machine.specs.Table.{at, change}
 use Rattle.machine.specs.Announce.{without, push, cut, victims, anywhere}
 use Rattle.machine.specs.Sound.{Ordered, All, Filled}
 use Rattle.machine.specs.Typed.{Each}
-use Rattle.machine.proofs.At.{at_other}
+use Rattle.machine.proofs.At.{KeepsKey, at_other}
 use Rattle.machine.proofs.Table.{ordered-change, filled-change}
 use Rattle.machine.proofs.Tests.{or_left, or_right}
 use Rattle.store.specs.Flat.{row_of}
 use Rattle.announcing.proofs.Giving.{victims-push}
 use Rattle.announcing.proofs.Swapping.{change-swap}
 use Rattle.gathering.specs.Merges.{placed, gathered}
-use Rattle.gathering.specs.Waits.{pushes, Ready, Idle, waits}
-use Rattle.gathering.specs.Aside.{Aside}
+use Rattle.gathering.specs.Waits.{pushes, Small, Idle, waits}
+use Rattle.gathering.specs.Aside.{space, Mixed, Aside}
 
-module _ (j : Key) (x : ℕ) (small : j.hash < top) where
+module _ (j : Key) (small : j.hash < top) where
   elsewhere : (k : Key) → k.hash < top → eqb k.hash j.hash ≡ false → place k ≡ place j → ⊥
   elsewhere k s e q = eqb-false k.hash j.hash e (ap (λ (i : Key). i.hash) (place-inj k j s small q))
 
-  pub cut-pushes : (n : ℕ) (es : List Entry) (t : Table) → Each (Ready n) es → waits j.hash es ≡ false → Ordered 0 t → All Filled t → cut j x (pushes es t) ≡ pushes es (cut j x t)
+  pub at_pushes : (es : List Entry) (t : Table) → Each Small es → waits j.hash es ≡ false → at j (pushes es t) ≡ at j t
   unfolding pushes waits
-  cut-pushes n [] t a w o f = refl
-  cut-pushes n (e ∷ es) t a w o f =
-      let d = elsewhere e.key a.0.small (or_left (eqb e.key.hash j.hash) (waits j.hash es) w) in
-      cut-pushes n es (push e.key e.candidate t) a.1 (or_right (eqb e.key.hash j.hash) (waits j.hash es) w)
-      (ordered-change e.key _ 0 t (λ r. refl) (omega arith) a.0.small o) (filled-change e.key _ t f)
-      ∙ ap (pushes es) (change-swap j e.key (λ r. with_candidates (without x r.candidates) r) (λ r. with_candidates (r.candidates ++ (e.candidate ∷ [])) r) t small a.0.small
-      (λ z. d (sym z)) (λ r. refl) (λ r. refl) o f)
+  at_pushes [] t a w = refl
+  at_pushes (e ∷ es) t a w =
+      at_pushes es (push e.key e.candidate t) a.1 (or_right (eqb e.key.hash j.hash) (waits j.hash es) w)
+      ∙ at_other j e.key _ t (λ r. refl) (λ q. elsewhere e.key a.0.small (or_left (eqb e.key.hash j.hash) (waits j.hash es) w) (sym q))
 
-  at_still : (n : ℕ) (e : Entry) (t : Table) → Ready n e → eqb e.key.hash j.hash ≡ false → at e.key (cut j x t) ≡ at e.key t
-  at_still n e t r w = at_other e.key j (λ q. with_candidates (without x q.candidates) q) t (λ q. refl) (elsewhere e.key r.small w)
+module _ (j : Key) (f : Request → Request) (keeps : KeepsKey f) (small : j.hash < top) where
+  pub change-pushes : (es : List Entry) (t : Table) → Each Small es → waits j.hash es ≡ false → Ordered 0 t → All Filled t → change j f (pushes es t) ≡ pushes es (change j f t)
+  unfolding pushes waits
+  change-pushes [] t a w o l = refl
+  change-pushes (e ∷ es) t a w o l =
+      let d = elsewhere j small e.key a.0.small (or_left (eqb e.key.hash j.hash) (waits j.hash es) w) in
+      change-pushes es (push e.key e.candidate t) a.1 (or_right (eqb e.key.hash j.hash) (waits j.hash es) w)
+      (ordered-change e.key _ 0 t (λ r. refl) (omega arith) a.0.small o) (filled-change e.key _ t l)
+      ∙ ap (pushes es) (change-swap j e.key f (λ r. with_candidates (r.candidates ++ (e.candidate ∷ [])) r) t small a.0.small (λ z. d (sym z)) keeps (λ r. refl) o l)
 
-  gathered_still : (n : ℕ) (es : List Entry) (t : Table) (ys : List Row) → Each (Ready n) es → waits j.hash es ≡ false → gathered (cut j x t) es ys ≡ gathered t es ys
+  at_still : (e : Entry) (t : Table) → Small e → eqb e.key.hash j.hash ≡ false → at e.key (change j f t) ≡ at e.key t
+  at_still e t r w = at_other e.key j f t keeps (elsewhere j small e.key r.small w)
+
+  gathered_still : (es : List Entry) (t : Table) (ys : List Row) → Each Small es → waits j.hash es ≡ false → gathered (change j f t) es ys ≡ gathered t es ys
   unfolding gathered waits
-  gathered_still n [] t ys a w = refl
-  gathered_still n (e ∷ es) t ys a w =
-      rw (at_still n e t a.0 (or_left (eqb e.key.hash j.hash) (waits j.hash es) w))
-      (gathered_still n es t (placed (row_of (at e.key t) e.candidate) ys) a.1 (or_right (eqb e.key.hash j.hash) (waits j.hash es) w))
+  gathered_still [] t ys a w = refl
+  gathered_still (e ∷ es) t ys a w =
+      rw (at_still e t a.0 (or_left (eqb e.key.hash j.hash) (waits j.hash es) w))
+      (gathered_still es t (placed (row_of (at e.key t) e.candidate) ys) a.1 (or_right (eqb e.key.hash j.hash) (waits j.hash es) w))
 
-  idle_still : (n : ℕ) (es : List Entry) (t : Table) → Each (Ready n) es → waits j.hash es ≡ false → Idle t es → Idle (cut j x t) es
+  idle_still : (es : List Entry) (t : Table) → Each Small es → waits j.hash es ≡ false → Idle t es → Idle (change j f t) es
   unfolding waits
-  idle_still n [] t a w i = tt
-  idle_still n (e ∷ es) t a w i = (
-    rw (at_still n e t a.0 (or_left (eqb e.key.hash j.hash) (waits j.hash es) w)) i.0,
-    idle_still n es t a.1 (or_right (eqb e.key.hash j.hash) (waits j.hash es) w) i.1,
+  idle_still [] t a w i = tt
+  idle_still (e ∷ es) t a w i = (
+    rw (at_still e t a.0 (or_left (eqb e.key.hash j.hash) (waits j.hash es) w)) i.0,
+    idle_still es t a.1 (or_right (eqb e.key.hash j.hash) (waits j.hash es) w) i.1,
   )
 
+  pub mixed_still : {d : ℕ} {t : Table} {es : List Entry} {w : List ℕ} → Mixed t es w d → waits j.hash es ≡ false → Mixed (change j f t) es w d
+  mixed_still {d} {t} {es} {w} a e = record {
+    ready = a.ready;
+    idle = idle_still es t a.ready e a.idle;
+    single = a.single;
+    count = a.count;
+    rows = subst (λ (ys : List Row). Holds row_size row_words space ys w) (sym (gathered_still es t [] a.ready e)) a.rows;
+  }
+
+-- one goes at another hash than theirs
+module _ (j : Key) (x : ℕ) (small : j.hash < top) where
+  pub cut-pushes : (es : List Entry) (t : Table) → Each Small es → waits j.hash es ≡ false → Ordered 0 t → All Filled t → cut j x (pushes es t) ≡ pushes es (cut j x t)
+  cut-pushes es t a w o l = change-pushes j (λ r. with_candidates (without x r.candidates) r) (λ r. refl) small es t a w o l
+
   pub aside_still : {n d : ℕ} {t : Table} {es : List Entry} {w : List ℕ} → Aside n t es w d → waits j.hash es ≡ false → Aside n (cut j x t) es w d
-  aside_still {n} {d} {t} {es} {w} a e = record { ready = a.ready; idle = idle_still n es t a.ready e a.idle; count = a.count; rows = rw (gathered_still n es t [] a.ready e) a.rows }
+  aside_still a e = record { mixed = mixed_still j (λ r. with_candidates (without x r.candidates) r) (λ r. refl) small a.mixed e; mine = a.mine }
 
 -- those that wait are preferred: none of them is a victim
 pub victims-pushes : (es : List Entry) (t : Table) → Each (λ (a : Entry). a.candidate.preferred ≡ true) es → victims anywhere (pushes es t) ≡ victims anywhere t

@@ -14,7 +14,7 @@ use Rattle.regions.specs.declared.Row.{Row}
 use Rattle.regions.specs.Regions.{Holds}
 use Rattle.regions.specs.Rows.{row_size, row_words}
 use Rattle.machine.specs.Limits.{Limits, max_peer_announcements}
-use Rattle.machine.specs.State.{Candidate, Entry, State, Table, limits_of, owner_is}
+use Rattle.machine.specs.State.{Answer, Candidate, Entry, State, Table, limits_of, owner_is}
 use Rattle.machine.specs.Table.{at, held, held_by, held_at, is_candidate}
 use Rattle.machine.specs.Announce.{announce_keyed}
 use Rattle.machine.specs.Sound.{Sound}
@@ -22,14 +22,12 @@ use Rattle.machine.specs.Typed.{Each}
 use Rattle.machine.proofs.Tests.{test, or_left, or_true}
 use Rattle.store.specs.Flat.{row_of}
 use Rattle.announcing.proofs.Entering.{fresh}
-use Rattle.gathering.specs.Merges.{placed, gathered}
 use Rattle.gathering.specs.declared.beside.Fare.{Fare}
 use Rattle.gathering.specs.declared.beside.Fare.TheVariants.{Nothing, Waits, Alone}
-use Rattle.gathering.specs.Waits.{Ready, waits, barred_beside, full_beside}
+use Rattle.gathering.specs.Waits.{waits, Admits, barred_beside, full_beside}
 use Rattle.gathering.specs.Aside.{space, PutIn, Aside, Joins, Fares, FaresIn, RowIn, Enters, Joined, SetAside}
-use Rattle.gathering.proofs.Waiting.{taken-barred, taken_out, taken_in}
-use Rattle.gathering.proofs.InOrder.{sorted-gathered, gathered_more}
-use Rattle.gathering.proofs.Looking.{few_rows}
+use Rattle.gathering.proofs.Waiting.{taken-barred, taken_out, admits, admitted}
+use Rattle.gathering.proofs.OneMore.{aside_more}
 
 -- ---- barred for one of three reasons
 
@@ -59,66 +57,40 @@ module _ (st : State) (s : Sound st) (k : Key) (c : Candidate) (small : k.hash <
   Barred = barred_beside es k c.connection t
 
   pub fares-barred : {r : Bool} → r ≡ Barred → r ≡ true → Fares m t es k c Nothing
-  fares-barred q e = taken-barred m c es t a.ready s.bounded.ordered k (sym q ∙ e)
+  fares-barred q e = taken-barred m c es t a.mixed.ready a.mine s.bounded.ordered k (sym q ∙ e)
 
   out : full_beside m es k t ≡ true → c.preferred ≡ false → Fares m t es k c Nothing
   out f p =
       elim (test Barred) [
         | inl b ↦ fares-barred refl b
-        | inr b ↦ taken_out m c es t a.ready s.bounded.ordered k b f p
+        | inr b ↦ taken_out m c es t a.mixed.ready a.mine s.bounded.ordered k b f p
       ]
 
   -- L announcements are held, or eight at the hash
   pub fares-full : {r : Bool} → r ≡ leb st.limit (held t + d) → r ≡ true → c.preferred ≡ false → Fares m t es k c Nothing
-  fares-full q e p = out (or_true (leb m.alternates (held_at k.hash t)) _ (ap (λ (i : ℕ). leb st.limit (held t + i)) a.count ∙ sym q ∙ e)) p
+  fares-full q e p = out (or_true (leb m.alternates (held_at k.hash t)) _ (ap (λ (i : ℕ). leb st.limit (held t + i)) a.mixed.count ∙ sym q ∙ e)) p
 
   pub fares-crowded : {x : Bool} → x ≡ leb m.alternates (held_at k.hash t) → x ≡ true → c.preferred ≡ false → Fares m t es k c Nothing
   fares-crowded q e p = out (ap (λ (b : Bool). b || leb st.limit (held t + length es)) (sym q ∙ e)) p
 
   pub fares_in : {f b x : Bool} → f ≡ leb st.limit (held t + d) → f ≡ false → b ≡ Barred → b ≡ false → x ≡ leb m.alternates (held_at k.hash t) → x ≡ false → Fares m t es k c Waits
   fares_in {f} {b} {x} qf ef qb eb qx ex =
-      let full : leb st.limit (held t + length es) ≡ false = ap (λ (i : ℕ). leb st.limit (held t + i)) a.count ∙ sym qf ∙ ef in
+      let full : leb st.limit (held t + length es) ≡ false = ap (λ (i : ℕ). leb st.limit (held t + i)) a.mixed.count ∙ sym qf ∙ ef in
       let crowd : leb m.alternates (held_at k.hash t) ≡ false = sym qx ∙ ex in
       let spare : full_beside m es k t ≡ false = ap (λ (z : Bool). z || leb st.limit (held t + length es)) crowd ∙ full in
-      let free : Barred ≡ false = sym qb ∙ eb in
-      let apart = or_left (is_candidate c.connection k.hash t || waits k.hash es) (leb max_peer_announcements (held_by c.connection t + length es)) free in
-      let new = or_left (is_candidate c.connection k.hash t) (waits k.hash es) apart in
-      record {
-        joins = taken_in m c es t a.ready s.bounded.ordered k free spare;
-        idle = fresh st s k small c.connection new;
-        room = leb-false st.limit (held t + length es) full;
-        free = free;
-        roomy = spare;
-      }
+      let x : Admits m t es k c = admits m t es k c (sym qb ∙ eb) spare in
+      record { joins = ap (λ (z : Answer). z.table) (admitted x a.mixed.ready s.bounded.ordered); idle = fresh st s k small c.connection x.new; admits = x }
 
 -- ---- who waits then
-
-pub each_more : (P : Entry → Type 0) (l : List Entry) (b : Entry) → Each P l → P b → Each P (l ++ (b ∷ []))
-each_more P [] b h r = (r, tt)
-each_more P (x ∷ l) b h r = (h.0, each_more P l b h.1 r)
-
--- one more, whose row is put in its place
-pub aside_more : (k : Key) (c : Candidate) {t : Table} {es : List Entry} {w w' : List ℕ} {d : ℕ} → Aside c.connection t es w d → {y : Row} → k.hash < top → d < space
-    → owner_is c.connection (at k t).owner ≡ false → y ≡ row_of (at k t) c → PutIn w w' d y
-    → Aside c.connection t (es ++ (record { key = k; candidate = c } ∷ [])) w' (d + 1)
-aside_more k c {t} {es} {w} {w'} {d} a {y} small l i e p =
-    let b : Entry = record { key = k; candidate = c } in
-    let one : placed y (gathered t es []) ≡ gathered t (es ++ (b ∷ [])) [] = ap (λ (z : Row). placed z (gathered t es [])) e ∙ sym (gathered_more t es b []) in
-    record {
-      ready = each_more (Ready c.connection) es b a.ready (record { mine = refl; small = small });
-      idle = each_more (λ (x : Entry). owner_is x.candidate.connection (at x.key t).owner ≡ false) es b a.idle i;
-      count = length-append es (b ∷ []) ∙ omega (arith, a.count);
-      rows = subst (λ (zs : List Row). Holds row_size row_words space zs w') one (p space (gathered t es []) (few_rows a) l (sorted-gathered t es) a.rows);
-    }
 
 module _ {m : Limits} {t : Table} {es : List Entry} {c : Candidate} {w : List ℕ} {d : ℕ} (a : Aside c.connection t es w d) where
   pub joined_none : Joined m t es w d none c
   unfolding announce_keyed
-  joined_none = record { entries = es; aside = a; table = refl; room = λ h. omega (arith, a.count); enters = λ h. absurd (omega (arith, a.count)) }
+  joined_none = record { entries = es; aside = a; table = refl; room = λ h. omega (arith, a.mixed.count); enters = λ h. absurd (omega (arith, a.mixed.count)) }
 
   pub joined_not : {k : Key} → Fares m t es k c Nothing → Joined m t es w d (some k) c
   unfolding announce_keyed
-  joined_not f = record { entries = es; aside = a; table = f; room = λ h. omega (arith, a.count); enters = λ h. absurd (omega (arith, a.count)) }
+  joined_not f = record { entries = es; aside = a; table = f; room = λ h. omega (arith, a.mixed.count); enters = λ h. absurd (omega (arith, a.mixed.count)) }
 
   pub joined_in : {k : Key} {w' : List ℕ} {y : Row} → k.hash < top → d < space → Joins m t es k c → y ≡ row_of (at k t) c → PutIn w w' d y → Joined m t es w' (d + 1) (some k) c
   unfolding announce_keyed
@@ -126,12 +98,12 @@ module _ {m : Limits} {t : Table} {es : List Entry} {c : Candidate} {w : List �
       let b : Entry = record { key = k; candidate = c } in
       record {
         entries = es ++ (b ∷ []);
-        aside = aside_more k c a small l f.idle e p;
+        aside = aside_more k c small a l f.admits.apart f.idle e p;
         table = f.joins;
-        room = λ h. omega (arith, f.room, a.count);
+        room = λ h. omega (arith, f.admits.room, a.mixed.count);
         enters = λ h j q.
             let z : k ≡ j = cc in
-            subst (λ (i : Key). Enters m t es i c (es ++ (b ∷ []))) z (record { free = f.free; roomy = f.roomy; last = refl });
+            subst (λ (i : Key). Enters m t es i c (es ++ (b ∷ []))) z (record { admits = f.admits; last = refl });
       }
 
 -- ---- what a call does with one announcement

@@ -24,7 +24,7 @@ use Rattle.store.specs.Flat.{row_of}
 use Rattle.store.specs.Shown.{row_numbers}
 use Rattle.store.proofs.Bounds.{Ascend, ascend-sorted, sorted-ascend}
 use Rattle.gathering.specs.Merges.{number_of, upto, beyond, placed, gathered}
-use Rattle.gathering.specs.Waits.{Ready, waits}
+use Rattle.gathering.specs.Waits.{Small, waits}
 use Rattle.gathering.specs.Aside.{numbered}
 use Rattle.gathering.proofs.Merging.{placed_is, placed_past, placed_first, upto_stop, parted, bound-parts, row-place}
 
@@ -151,8 +151,8 @@ numbered-placed x y ys =
     regroup true b c = refl
     regroup false b c = refl
 
-module _ (n : ℕ) (t : Table) (o : Ordered 0 t) (x : ℕ) where
-  numbered-gathered : (es : List Entry) (ys : List Row) → Each (Ready n) es → numbered x (gathered t es ys) ≡ (named x es || numbered x ys)
+module _ (t : Table) (o : Ordered 0 t) (x : ℕ) where
+  numbered-gathered : (es : List Entry) (ys : List Row) → Each Small es → numbered x (gathered t es ys) ≡ (named x es || numbered x ys)
   unfolding gathered named
   numbered-gathered [] ys a = refl
   numbered-gathered (e ∷ es) ys a =
@@ -174,18 +174,18 @@ place-either Wtxid g h a b =
       | inr e ↦ rw (e, ne_eqb (base Wtxid + g) (base Wtxid + h) (λ z. eqb-false g h e (omega arith)), ne_eqb (base Wtxid + g) (base Txid + h) (λ z. omega arith))
     ]
 
-named_both : (n h : ℕ) (es : List Entry) → h < top → Each (Ready n) es → (named (place (txid h)) es || named (place (wtxid h)) es) ≡ waits h es
+named_both : (h : ℕ) (es : List Entry) → h < top → Each Small es → (named (place (txid h)) es || named (place (wtxid h)) es) ≡ waits h es
 unfolding waits named
-named_both n h [] s a = refl
-named_both n h (e ∷ es) s a =
+named_both h [] s a = refl
+named_both h (e ∷ es) s a =
     or_pairs (eqb (place e.key) (place (txid h))) (named (place (txid h)) es) (eqb (place e.key) (place (wtxid h))) (named (place (wtxid h)) es)
-    ∙ rw (place-either e.key.kind e.key.hash h a.0.small s, named_both n h es s a.1)
+    ∙ rw (place-either e.key.kind e.key.hash h a.0.small s, named_both h es s a.1)
 
 -- one that waits is at the hash exactly if a row has one of its two keys
-pub waits_is : (n h : ℕ) (t : Table) (es : List Entry) → h < top → Ordered 0 t → Each (Ready n) es
+pub waits_is : (h : ℕ) (t : Table) (es : List Entry) → h < top → Ordered 0 t → Each Small es
     → (numbered (place (txid h)) (gathered t es []) || numbered (place (wtxid h)) (gathered t es [])) ≡ waits h es
 unfolding numbered
-waits_is n h t es s o a =
+waits_is h t es s o a =
     let x = place (txid h) in
     let y = place (wtxid h) in
-    rw (numbered-gathered n t o x es [] a, numbered-gathered n t o y es [] a, or_none (named x es), or_none (named y es)) (named_both n h es s a)
+    rw (numbered-gathered t o x es [] a, numbered-gathered t o y es [] a, or_none (named x es), or_none (named y es)) (named_both h es s a)

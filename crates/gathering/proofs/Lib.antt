@@ -5,6 +5,7 @@ pub mod Turning
 pub mod ComingIn
 pub mod InOrder
 pub mod Looking
+pub mod OneMore
 pub mod Faring
 pub mod Arriving
 pub mod Elsewhere

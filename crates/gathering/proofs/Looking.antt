@@ -17,7 +17,7 @@ use Rattle.machine.specs.State.{Entry, Table}
 use Rattle.store.specs.Shown.{row_numbers}
 use Rattle.store.proofs.Searches.{row_sought}
 use Rattle.gathering.specs.Merges.{gathered}
-use Rattle.gathering.specs.Aside.{space, numbered, KeyIn, PutIn, Aside, WaitsAt}
+use Rattle.gathering.specs.Aside.{space, numbered, KeyIn, PutIn, Mixed, WaitsAt}
 use Rattle.gathering.proofs.ComingIn.{length-gathered}
 use Rattle.gathering.proofs.InOrder.{sorted-gathered, put-placed, numbered_is, waits_is}
 
@@ -33,7 +33,7 @@ row_put {w} {w'} {m} {i} {y} {k} q a p L ys e l s h =
 
 -- ---- whether one that waits is at a hash
 
-module _ {n : ℕ} {t : Table} {es : List Entry} {w : List ℕ} {m : ℕ} (a : Aside n t es w m) where
+module _ {t : Table} {es : List Entry} {w : List ℕ} {m : ℕ} (a : Mixed t es w m) where
   pub few_rows : length (gathered t es []) ≡ m
   few_rows = omega (arith, length-gathered t es [], a.count)
 
@@ -42,13 +42,13 @@ module _ {n : ℕ} {t : Table} {es : List Entry} {w : List ℕ} {m : ℕ} (a : A
 
 module _ {w : List ℕ} {m x h : ℕ} {p : Bool} (l : m ≤ space) (small : h < top) (k : KeyIn w m x p) (e : x ≡ place (txid h)) where
   pub waits_first : p ≡ true → WaitsAt w m h p
-  waits_first q n t o es a =
+  waits_first q t o es a =
       let N = gathered t es [] in
       let i : numbered (place (txid h)) N ≡ true = ap (λ (z : ℕ). numbered z N) (sym e) ∙ sym (key-waits a x l k) ∙ q in
-      q ∙ sym (ap (λ (b : Bool). b || numbered (place (wtxid h)) N) i) ∙ waits_is n h t es small o a.ready
+      q ∙ sym (ap (λ (b : Bool). b || numbered (place (wtxid h)) N) i) ∙ waits_is h t es small o a.ready
 
   pub waits-second : {y : ℕ} {r : Bool} → p ≡ false → KeyIn w m y r → y ≡ place (wtxid h) → WaitsAt w m h r
-  waits-second {y} {r} q j f n t o es a =
+  waits-second {y} {r} q j f t o es a =
       let N = gathered t es [] in
       let i : numbered (place (txid h)) N ≡ false = ap (λ (z : ℕ). numbered z N) (sym e) ∙ sym (key-waits a x l k) ∙ q in
-      key-waits a y l j ∙ ap (λ (z : ℕ). numbered z N) f ∙ sym (ap (λ (b : Bool). b || numbered (place (wtxid h)) N) i) ∙ waits_is n h t es small o a.ready
+      key-waits a y l j ∙ ap (λ (z : ℕ). numbered z N) f ∙ sym (ap (λ (b : Bool). b || numbered (place (wtxid h)) N) i) ∙ waits_is h t es small o a.ready

@@ -7,7 +7,7 @@ use mathlib.Core.List.{List, [], ◌∷◌, ◌++◌}
 use native.Mathlib.Omega.{arith}
 use lib.Dec.{ltb, leb, eqb}
 use lib.ListN.{length, take, drop, take-append-drop}
-use borrow.Author.Tests.{lt-ltb, eq-eqb}
+use borrow.Author.Tests.{lt-ltb, lt-leb, leb-false, eq-eqb}
 use Rattle.ident.specs.Number.{Key, top}
 use Rattle.regions.specs.declared.Row.{Row}
 use Rattle.regions.specs.Regions.{insert_at}
@@ -27,7 +27,7 @@ use Rattle.store.proofs.Counts.{rows_append, count-rows}
 use Rattle.store.proofs.RowsAt.{push-rows}
 use Rattle.store.proofs.Split.{rows_below}
 use Rattle.announcing.proofs.Deciding.{when-barred, when-crowded, when-crowded_out, when-full, when-full_out, when-room}
-use Rattle.gathering.specs.Waits.{pushes, Ready, waits, barred_beside, full_beside}
+use Rattle.gathering.specs.Waits.{pushes, Small, Of, waits, Admits, barred_beside, full_beside}
 
 -- ---- counts, exactly
 
@@ -44,21 +44,21 @@ one_more_lem q k c t s o =
     let e : p r ≡ q k c.connection = rw (key_row (at k t) c, conn-row (at k t) c, at_key k 0 t s o) in
     sym (count-rows q (push k c t)) ∙ ap (count_rows p) (push-rows k 0 t o c) ∙ rows-insert p i r (rows_of t) ∙ rw (count-rows q t, e)
 
-among : (Key → ℕ → Bool) → List Entry → ℕ
+pub among : (Key → ℕ → Bool) → List Entry → ℕ
 among q [] = 0
 among q (a ∷ l) = one (q a.key a.candidate.connection) + among q l
 
-pub ordered-pushes : (n : ℕ) (es : List Entry) (t : Table) → Each (Ready n) es → Ordered 0 t → Ordered 0 (pushes es t)
+pub ordered-pushes : (es : List Entry) (t : Table) → Each Small es → Ordered 0 t → Ordered 0 (pushes es t)
 unfolding pushes
-ordered-pushes n [] t a o = o
-ordered-pushes n (e ∷ es) t a o = ordered-pushes n es (push e.key e.candidate t) a.1 (ordered-change e.key _ 0 t (λ r. refl) (omega arith) a.0.small o)
+ordered-pushes [] t a o = o
+ordered-pushes (e ∷ es) t a o = ordered-pushes es (push e.key e.candidate t) a.1 (ordered-change e.key _ 0 t (λ r. refl) (omega arith) a.0.small o)
 
-count-pushes : (q : Key → ℕ → Bool) (n : ℕ) (es : List Entry) (t : Table) → Each (Ready n) es → Ordered 0 t → count q (pushes es t) ≡ count q t + among q es
+pub count-pushes : (q : Key → ℕ → Bool) (es : List Entry) (t : Table) → Each Small es → Ordered 0 t → count q (pushes es t) ≡ count q t + among q es
 unfolding pushes among
-count-pushes q n [] t a o = omega arith
-count-pushes q n (e ∷ es) t a o =
+count-pushes q [] t a o = omega arith
+count-pushes q (e ∷ es) t a o =
     let o' : Ordered 0 (push e.key e.candidate t) = ordered-change e.key _ 0 t (λ r. refl) (omega arith) a.0.small o in
-    omega (arith, count-pushes q n es (push e.key e.candidate t) a.1 o', one_more_lem q e.key e.candidate t a.0.small o)
+    omega (arith, count-pushes q es (push e.key e.candidate t) a.1 o', one_more_lem q e.key e.candidate t a.0.small o)
 
 -- ---- what those that wait add to each count
 
@@ -67,7 +67,12 @@ unfolding among
 among_any [] = refl
 among_any (e ∷ es) = omega (arith, among_any es)
 
-among_by : (n : ℕ) (es : List Entry) → Each (Ready n) es → among (by n) es ≡ length es
+among_most : (q : Key → ℕ → Bool) (es : List Entry) → among q es ≤ length es
+unfolding among
+among_most q [] = omega arith
+among_most q (e ∷ es) = elim (test (q e.key e.candidate.connection)) [ inl d ↦ rw d (omega (arith, among_most q es)) | inr d ↦ rw d (omega (arith, among_most q es)) ]
+
+among_by : (n : ℕ) (es : List Entry) → Each (Of n) es → among (by n) es ≡ length es
 unfolding among
 among_by n [] a = refl
 among_by n (e ∷ es) a = rw (eq-eqb e.candidate.connection n a.0.mine) (omega (arith, among_by n es a.1))
@@ -82,7 +87,7 @@ unfolding among waits
 among_none n h [] w = refl
 among_none n h (e ∷ es) w = rw (or_left (eqb e.key.hash h) (waits h es) w) (omega (arith, among_none n h es (or_right (eqb e.key.hash h) (waits h es) w)))
 
-among_some : (n h : ℕ) (es : List Entry) → Each (Ready n) es → waits h es ≡ true → 1 ≤ among (by_under n h) es
+among_some : (n h : ℕ) (es : List Entry) → Each (Of n) es → waits h es ≡ true → 1 ≤ among (by_under n h) es
 unfolding among waits
 among_some n h [] a w = let z : ◌≡◌ {A = Bool} false true = w in absurd (false-true z)
 among_some n h (e ∷ es) a w =
@@ -91,100 +96,130 @@ among_some n h (e ∷ es) a w =
       | inr d ↦ rw d (omega (arith, among_some n h es a.1 (rw d at w)))
     ]
 
--- ---- the tests, by the table as it was
+-- ---- the counts, by the table as it was
 
-module _ (n : ℕ) (es : List Entry) (t : Table) (a : Each (Ready n) es) (o : Ordered 0 t) where
-  unchanged : (h : ℕ) → waits h es ≡ false → count (by_under n h) (pushes es t) ≡ count (by_under n h) t
-  unchanged h w = omega (arith, count-pushes (by_under n h) n es t a o, among_none n h es w)
-
-  pub candidate-beside : (h : ℕ) → is_candidate n h (pushes es t) ≡ (is_candidate n h t || waits h es)
-  candidate-beside h =
-      elim (test (waits h es)) [
-        | inl w ↦ lt-ltb 0 (count (by_under n h) (pushes es t)) (omega (arith, count-pushes (by_under n h) n es t a o, among_some n h es a w)) ∙ sym (or_true (is_candidate n h t) (waits h es) w)
-        | inr w ↦ ap (ltb 0) (unchanged h w) ∙ sym (ap (λ (b : Bool). is_candidate n h t || b) w ∙ or_none (is_candidate n h t))
-      ]
-
-  by_beside : held_by n (pushes es t) ≡ held_by n t + length es
-  by_beside = omega (arith, count-pushes (by n) n es t a o, among_by n es a)
-
+module _ (es : List Entry) (t : Table) (a : Each Small es) (o : Ordered 0 t) where
   pub held_beside : held (pushes es t) ≡ held t + length es
-  held_beside = omega (arith, count-pushes any n es t a o, among_any es)
+  held_beside = omega (arith, count-pushes any es t a o, among_any es)
 
-  pub at_beside : (h : ℕ) → waits h es ≡ false → held_at h (pushes es t) ≡ held_at h t
-  at_beside h w = omega (arith, count-pushes (under h) n es t a o, among_under h es w)
+  pub by_most : (n : ℕ) → held_by n (pushes es t) ≤ held_by n t + length es
+  by_most n = omega (arith, count-pushes (by n) es t a o, among_most (by n) es)
 
-  pub barred-beside : (k : Key) → (is_candidate n k.hash (pushes es t) || leb max_peer_announcements (held_by n (pushes es t))) ≡ barred_beside es k n t
-  barred-beside k = rw (candidate-beside k.hash, by_beside)
+  module _ (h : ℕ) (w : waits h es ≡ false) where
+    pub at_beside : held_at h (pushes es t) ≡ held_at h t
+    at_beside = omega (arith, count-pushes (under h) es t a o, among_under h es w)
 
--- ---- one announcement
+    pub candidate_beside : (n : ℕ) → is_candidate n h (pushes es t) ≡ is_candidate n h t
+    candidate_beside n =
+        let e : count (by_under n h) (pushes es t) ≡ count (by_under n h) t = omega (arith, count-pushes (by_under n h) es t a o, among_none n h es w) in
+        ap (ltb 0) e
+
+-- ---- one announcement, whoever waits
 
 pub pushes_more : (es : List Entry) (a : Entry) (t : Table) → pushes (es ++ (a ∷ [])) t ≡ push a.key a.candidate (pushes es t)
 unfolding pushes
 pushes_more [] a t = refl
 pushes_more (e ∷ es) a t = pushes_more es a (push e.key e.candidate t)
 
-module _ (m : Limits) (c : Candidate) (es : List Entry) (t : Table) (a : Each (Ready c.connection) es) (o : Ordered 0 t) where
-  abbrev Taken : Key → List Entry → Type 0
-  Taken k l = (announce_at m k c (pushes es t)).table ≡ pushes l t
+module _ {m : Limits} {t : Table} {es : List Entry} {k : Key} {c : Candidate} (x : Admits m t es k c) (a : Each Small es) (o : Ordered 0 t) where
+  -- on a table with as many candidates of each kind
+  module _ (u : Table) (same : (q : Key → ℕ → Bool) → count q u ≡ count q (pushes es t)) where
+    pub admits_new : is_candidate c.connection k.hash u ≡ false
+    admits_new = ap (ltb 0) (same (by_under c.connection k.hash)) ∙ candidate_beside es t a o k.hash x.apart c.connection ∙ x.new
 
-  module _ (k : Key) where
-    abbrev Barred : Bool
-    Barred = barred_beside es k c.connection t
+    pub admits_done : announce_at m k c u ≡ done (push k c u)
+    admits_done =
+        let few : leb max_peer_announcements (held_by c.connection u) ≡ false = lt-leb max_peer_announcements (held_by c.connection u)
+        (omega (arith, same (by c.connection), by_most es t a o c.connection, x.few)) in
+        when-room m k c u (rw (admits_new, few))
+        (lt-leb m.alternates (held_at k.hash u) (omega (arith, same (under k.hash), at_beside es t a o k.hash x.apart, x.spare)))
+        (lt-leb m.announcements (held u) (omega (arith, same any, held_beside es t a o, x.room)))
 
-    abbrev Crowded : Bool
-    Crowded = leb m.alternates (held_at k.hash t)
+  pub admitted : announce_at m k c (pushes es t) ≡ done (pushes (es ++ (record { key = k; candidate = c } ∷ [])) t)
+  admitted = admits_done (pushes es t) (λ q. refl) ∙ ap done (sym (pushes_more es (record { key = k; candidate = c }) t))
 
-    abbrev Full : Bool
-    Full = leb m.announcements (held t + length es)
+-- ---- the tests where all are of one connection
 
-    pub barred_out : Barred ≡ true → announce_at m k c (pushes es t) ≡ refused (pushes es t)
-    barred_out b = when-barred m k c (pushes es t) (barred-beside c.connection es t a o k ∙ b)
+module _ (n : ℕ) (es : List Entry) (t : Table) (a : Each Small es) (i : Each (Of n) es) (o : Ordered 0 t) where
+  pub candidate-beside : (h : ℕ) → is_candidate n h (pushes es t) ≡ (is_candidate n h t || waits h es)
+  candidate-beside h =
+      elim (test (waits h es)) [
+        | inl w ↦ lt-ltb 0 (count (by_under n h) (pushes es t)) (omega (arith, count-pushes (by_under n h) es t a o, among_some n h es i w)) ∙ sym (or_true (is_candidate n h t) (waits h es) w)
+        | inr w ↦ candidate_beside es t a o h w n ∙ sym (ap (λ (b : Bool). is_candidate n h t || b) w ∙ or_none (is_candidate n h t))
+      ]
 
-    pub taken-barred : Barred ≡ true → Taken k es
-    taken-barred b = ap (λ (x : Answer). x.table) (barred_out b)
+  by_beside : held_by n (pushes es t) ≡ held_by n t + length es
+  by_beside = omega (arith, count-pushes (by n) es t a o, among_by n es i)
 
-    module _ (b : Barred ≡ false) where
-      free : (is_candidate c.connection k.hash (pushes es t) || leb max_peer_announcements (held_by c.connection (pushes es t))) ≡ false
-      free = barred-beside c.connection es t a o k ∙ b
+  pub barred-beside : (k : Key) → (is_candidate n k.hash (pushes es t) || leb max_peer_announcements (held_by n (pushes es t))) ≡ barred_beside es k n t
+  barred-beside k = rw (candidate-beside k.hash, by_beside)
 
-      pub waits_not : waits k.hash es ≡ false
-      waits_not = or_right (is_candidate c.connection k.hash t) (waits k.hash es)
-          (or_left (is_candidate c.connection k.hash t || waits k.hash es) (leb max_peer_announcements (held_by c.connection t + length es)) b)
+-- ---- one announcement of that connection
 
-      crowded_is : leb m.alternates (held_at k.hash (pushes es t)) ≡ Crowded
-      crowded_is = ap (leb m.alternates) (at_beside c.connection es t a o k.hash waits_not)
+module _ (es : List Entry) (k : Key) (n : ℕ) (t : Table) (b : barred_beside es k n t ≡ false) where
+  abbrev Known : Bool
+  Known = is_candidate n k.hash t || waits k.hash es
 
-      full_is : leb m.announcements (held (pushes es t)) ≡ Full
-      full_is = ap (leb m.announcements) (held_beside c.connection es t a o)
+  abbrev Many : Bool
+  Many = leb max_peer_announcements (held_by n t + length es)
 
-      pub taken_out : full_beside m es k t ≡ true → c.preferred ≡ false → Taken k es
-      taken_out f p =
-          elim (test Crowded) [
-            | inl d ↦ ap (λ (x : Answer). x.table) (when-crowded_out m k c (pushes es t) free (crowded_is ∙ d) p)
-            | inr d ↦ ap (λ (x : Answer). x.table) (when-full_out m k c (pushes es t) free (crowded_is ∙ d) (full_is ∙ sym (ap (λ (z : Bool). z || Full) d) ∙ f) p)
-          ]
+  pub barred_apart : waits k.hash es ≡ false
+  barred_apart = or_right (is_candidate n k.hash t) (waits k.hash es) (or_left Known Many b)
 
-      -- one at its hash has to give way, or one anywhere
-      pub taken-crowded : Crowded ≡ true → c.preferred ≡ true → announce_at m k c (pushes es t) ≡ evicting (greatest (victims (at_hash k.hash) (pushes es t))) k c (pushes es t)
-      taken-crowded d p = when-crowded m k c (pushes es t) free (crowded_is ∙ d) p
+  pub barred_new : is_candidate n k.hash t ≡ false
+  barred_new = or_left (is_candidate n k.hash t) (waits k.hash es) (or_left Known Many b)
 
-      pub taken-evicting : Crowded ≡ false → Full ≡ true → c.preferred ≡ true → announce_at m k c (pushes es t) ≡ evicting (greatest (victims anywhere (pushes es t))) k c (pushes es t)
-      taken-evicting d f p = when-full m k c (pushes es t) free (crowded_is ∙ d) (full_is ∙ f) p
+  barred_few : held_by n t + length es < max_peer_announcements
+  barred_few = leb-false max_peer_announcements (held_by n t + length es) (or_right Known Many b)
 
-      pub taken_in : full_beside m es k t ≡ false → Taken k (es ++ (record { key = k; candidate = c } ∷ []))
-      taken_in f =
-          ap (λ (x : Answer). x.table) (when-room m k c (pushes es t) free (crowded_is ∙ or_left Crowded Full f) (full_is ∙ or_right Crowded Full f))
-          ∙ sym (pushes_more es (record { key = k; candidate = c }) t)
+pub admits : (m : Limits) (t : Table) (es : List Entry) (k : Key) (c : Candidate) → barred_beside es k c.connection t ≡ false → full_beside m es k t ≡ false → Admits m t es k c
+admits m t es k c b f = record {
+  new = barred_new es k c.connection t b;
+  apart = barred_apart es k c.connection t b;
+  few = barred_few es k c.connection t b;
+  spare = leb-false m.alternates (held_at k.hash t) (or_left (leb m.alternates (held_at k.hash t)) (leb m.announcements (held t + length es)) f);
+  room = leb-false m.announcements (held t + length es) (or_right (leb m.alternates (held_at k.hash t)) (leb m.announcements (held t + length es)) f);
+}
 
-      -- the same on a table with as many candidates of each kind
-      module _ (f : full_beside m es k t ≡ false) (u : Table) (same : (q : Key → ℕ → Bool) → count q u ≡ count q (pushes es t)) where
-        pub new_beside : is_candidate c.connection k.hash u ≡ false
-        new_beside = ap (ltb 0) (same (by_under c.connection k.hash)) ∙ or_left (is_candidate c.connection k.hash (pushes es t))
-            (leb max_peer_announcements (held_by c.connection (pushes es t))) free
+module _ (m : Limits) (c : Candidate) (es : List Entry) (t : Table) (a : Each Small es) (i : Each (Of c.connection) es) (o : Ordered 0 t) (k : Key) where
+  abbrev Taken : List Entry → Type 0
+  Taken l = (announce_at m k c (pushes es t)).table ≡ pushes l t
 
-        pub room-beside : announce_at m k c u ≡ done (push k c u)
-        room-beside =
-            when-room m k c u
-            (rw (new_beside, same (by c.connection)) (or_right (is_candidate c.connection k.hash (pushes es t)) (leb max_peer_announcements (held_by c.connection (pushes es t))) free))
-            (ap (leb m.alternates) (same (under k.hash)) ∙ crowded_is ∙ or_left Crowded Full f)
-            (ap (leb m.announcements) (same any) ∙ full_is ∙ or_right Crowded Full f)
+  abbrev Barred : Bool
+  Barred = barred_beside es k c.connection t
+
+  abbrev Crowded : Bool
+  Crowded = leb m.alternates (held_at k.hash t)
+
+  abbrev Full : Bool
+  Full = leb m.announcements (held t + length es)
+
+  pub barred_out : Barred ≡ true → announce_at m k c (pushes es t) ≡ refused (pushes es t)
+  barred_out b = when-barred m k c (pushes es t) (barred-beside c.connection es t a i o k ∙ b)
+
+  pub taken-barred : Barred ≡ true → Taken es
+  taken-barred b = ap (λ (x : Answer). x.table) (barred_out b)
+
+  module _ (b : Barred ≡ false) where
+    free : (is_candidate c.connection k.hash (pushes es t) || leb max_peer_announcements (held_by c.connection (pushes es t))) ≡ false
+    free = barred-beside c.connection es t a i o k ∙ b
+
+    crowded_is : leb m.alternates (held_at k.hash (pushes es t)) ≡ Crowded
+    crowded_is = ap (leb m.alternates) (at_beside es t a o k.hash (barred_apart es k c.connection t b))
+
+    full_is : leb m.announcements (held (pushes es t)) ≡ Full
+    full_is = ap (leb m.announcements) (held_beside es t a o)
+
+    pub taken_out : full_beside m es k t ≡ true → c.preferred ≡ false → Taken es
+    taken_out f p =
+        elim (test Crowded) [
+          | inl d ↦ ap (λ (x : Answer). x.table) (when-crowded_out m k c (pushes es t) free (crowded_is ∙ d) p)
+          | inr d ↦ ap (λ (x : Answer). x.table) (when-full_out m k c (pushes es t) free (crowded_is ∙ d) (full_is ∙ sym (ap (λ (z : Bool). z || Full) d) ∙ f) p)
+        ]
+
+    -- one at its hash has to give way, or one anywhere
+    pub taken-crowded : Crowded ≡ true → c.preferred ≡ true → announce_at m k c (pushes es t) ≡ evicting (greatest (victims (at_hash k.hash) (pushes es t))) k c (pushes es t)
+    taken-crowded d p = when-crowded m k c (pushes es t) free (crowded_is ∙ d) p
+
+    pub taken-evicting : Crowded ≡ false → Full ≡ true → c.preferred ≡ true → announce_at m k c (pushes es t) ≡ evicting (greatest (victims anywhere (pushes es t))) k c (pushes es t)
+    taken-evicting d f p = when-full m k c (pushes es t) free (crowded_is ∙ d) (full_is ∙ f) p

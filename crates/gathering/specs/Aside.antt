@@ -23,7 +23,7 @@ use Rattle.requests.specs.Windows.{Windowed}
 use Rattle.gathering.specs.declared.beside.Fare.{Fare}
 use Rattle.gathering.specs.declared.beside.Fare.TheVariants.{Nothing, Waits, Alone}
 use Rattle.gathering.specs.Merges.{number_of, placed, gathered}
-use Rattle.gathering.specs.Waits.{pushes, Ready, Idle, waits, barred_beside, full_beside}
+use Rattle.gathering.specs.Waits.{pushes, Small, Of, Idle, Single, waits, Admits, barred_beside}
 
 -- as many rows can wait
 abbrev pub space : ℕ
@@ -49,20 +49,26 @@ PutIn w w' m y = (L : ℕ) (ys : List Row) → length ys ≡ m → m < L → Sor
 
 -- ---- the rows of candidates that wait
 
--- the m rows in the words w are those of the candidates es of the connection n, who wait beside the table t
-pub record Aside (n : ℕ) (t : Table) (es : List Entry) (w : List ℕ) (m : ℕ) : Type 0 where
-  pub ready : Each (Ready n) es
+-- the m rows in the words w are those of the candidates es, of any connections and each at a hash of its own, who wait beside the table t
+pub record Mixed (t : Table) (es : List Entry) (w : List ℕ) (m : ℕ) : Type 0 where
+  pub ready : Each Small es
   pub idle : Idle t es
+  pub single : Single es
   pub count : length es ≡ m
   pub rows : Holds row_size row_words space (gathered t es []) w
+
+-- the same, all of the connection n
+pub record Aside (n : ℕ) (t : Table) (es : List Entry) (w : List ℕ) (m : ℕ) : Type 0 where
+  pub mixed : Mixed t es w m
+  pub mine : Each (Of n) es
 
 -- whoever they are
 abbrev pub Beside : List ℕ → ℕ → ℕ → Table → (List Entry → Type 0) → Type 0
 Beside w m n t P = (es : List Entry) → Aside n t es w m → P es
 
--- one of them is at this hash
+-- one of them, of whatever connection, is at this hash
 abbrev pub WaitsAt : List ℕ → ℕ → ℕ → Bool → Type 0
-WaitsAt w m h r = (n : ℕ) (t : Table) → Ordered 0 t → Beside w m n t (λ es. r ≡ waits h es)
+WaitsAt w m h r = (t : Table) → Ordered 0 t → (es : List Entry) → Mixed t es w m → r ≡ waits h es
 
 -- r tells whether the connection n may not announce at this key
 abbrev pub BarredIn : List ℕ → List ℕ → ℕ → Key → ℕ → Bool → Type 0
@@ -75,13 +81,11 @@ OpenIn b w m k n (Some x) = BarredIn b w m k n false × Windowed b k.hash x
 
 -- ---- an announcement beside those that wait
 
--- c comes in at k behind es, since nothing bars it and nothing has to give way
+-- c comes in at k behind es
 pub record Joins (m : Limits) (t : Table) (es : List Entry) (k : Key) (c : Candidate) : Type 0 where
   pub joins : (announce_at m k c (pushes es t)).table ≡ pushes (es ++ (record { key = k; candidate = c } ∷ [])) t
   pub idle : owner_is c.connection (at k t).owner ≡ false
-  pub room : held t + length es < m.announcements
-  pub free : barred_beside es k c.connection t ≡ false
-  pub roomy : full_beside m es k t ≡ false
+  pub admits : Admits m t es k c
 
 -- what a fare says of the table; one that is to be announced by itself may do anything
 abbrev pub Fares : Limits → Table → List Entry → Key → Candidate → Fare → Type 0
@@ -103,10 +107,9 @@ RowsOrFare b k P (Err r) = P r × (r ≡ Waits → ⊥)
 abbrev pub RowIn : List ℕ → Key → Candidate → Row → Type 0
 RowIn b k c y = (st : State) → Sound st → Writes b st → owner_is c.connection (at k st.table).owner ≡ false → y ≡ row_of (at k st.table) c
 
--- c comes in at k behind es, since nothing bars it and nothing has to give way: they are then `entries`
+-- c comes in at k behind es: they are then `entries`
 pub record Enters (m : Limits) (t : Table) (es : List Entry) (k : Key) (c : Candidate) (entries : List Entry) : Type 0 where
-  pub free : barred_beside es k c.connection t ≡ false
-  pub roomy : full_beside m es k t ≡ false
+  pub admits : Admits m t es k c
   pub last : entries ≡ es ++ (record { key = k; candidate = c } ∷ [])
 
 -- who waits once c was announced beside es: their rows are in the words w
@@ -135,7 +138,33 @@ pub record SetAside (b w w' : List ℕ) (m : ℕ) (x : Option Key) (c : Candidat
   pub waits : r ≡ Waits → SetAsideToo b w w' m x c
   pub alone : r ≡ Alone → w' ≡ w
 
+-- ---- those of any connections: one more waits
+
+-- by true there is room for one more, and none that waits is at this hash
+pub record OpenAt (w : List ℕ) (m h : ℕ) (r : Bool) : Type 0 where
+  pub spare : r ≡ true → m < space
+  pub apart : r ≡ true → WaitsAt w m h false
+  pub shut : r ≡ false → m < space → WaitsAt w m h true
+
+-- c waits too, at k, beside whatever sound state the bytes b write, if none that waits is at its hash and it does not own its request
+abbrev pub Among : List ℕ → List ℕ → List ℕ → ℕ → Key → Candidate → Type 0
+Among b w w' m k c =
+    (st : State) → Sound st → Writes b st → owner_is c.connection (at k st.table).owner ≡ false → (es : List Entry) → waits k.hash es ≡ false → Mixed st.table es w m
+    → Mixed st.table (es ++ (record { key = k; candidate = c } ∷ [])) w' (m + 1)
+
 -- ---- they come in
+
+-- the m rows in the words w wait beside the sound state that the bytes b write, which has room for them
+pub record GathersAll (b w : List ℕ) (m : ℕ) : Type 0 where
+  pub state : State
+  pub sound : Sound state
+  pub writes : Writes b state
+  pub entries : List Entry
+  pub mixed : Mixed state.table entries w m
+  pub room : held state.table + m ≤ state.limit
+
+abbrev pub ComeInAll : List ℕ → List ℕ → List ℕ → ℕ → Type 0
+ComeInAll b b' w m = (st : State) → Sound st → Writes b st → (es : List Entry) → Mixed st.table es w m → Writes b' (on_table (pushes es st.table) st)
 
 -- the m rows in the words w wait beside the sound state that the bytes b write, which has room for them
 pub record Gathers (b : List ℕ) (n : ℕ) (w : List ℕ) (m : ℕ) : Type 0 where

@@ -1,5 +1,6 @@
 pub mod Waits
 pub mod Merges
+pub mod Coming
 pub mod Aside
 pub mod Deferring
 pub mod Counted

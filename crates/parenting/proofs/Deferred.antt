@@ -30,8 +30,8 @@ use Rattle.gathering.specs.Waits.{pushes, waits}
 use Rattle.gathering.specs.Deferring.{left_by, Instead, Owed, Deferred}
 use Rattle.gathering.proofs.Deferral.{left_sound, left_held, left_candidate}
 use Rattle.gathering.proofs.Elsewhere.{cut-pushes, victims-pushes}
-use Rattle.gathering.proofs.Faring.{each_more}
-use Rattle.gathering.proofs.Waiting.{barred-beside, candidate-beside, held_beside, at_beside, pushes_more, waits_not}
+use Rattle.gathering.proofs.OneMore.{each_more}
+use Rattle.gathering.proofs.Waiting.{barred-beside, candidate-beside, held_beside, at_beside, pushes_more, barred_apart}
 use Rattle.parenting.specs.Waiting.{marks, keys_of, TxKey, Parental}
 use Rattle.parenting.specs.Displacing.{Owes, Unknown}
 use Rattle.parenting.proofs.Marking.{count-marks, change-marks, sound-marks, marks_more, entries-keys, entries-else, entries-preferred}
@@ -63,7 +63,7 @@ module _ {n : ℕ} {b w v : List ℕ} {d m : ℕ} {st : State} {t : Table} (x : 
   ordered = sound.bounded.ordered
 
   keys : Each TxKey (keys_of es)
-  keys = entries-keys n es x.owing.aside.ready x.parental
+  keys = entries-keys es x.owing.aside.mixed.ready x.parental
 
   same : (f : Key → ℕ → Bool) → count f u ≡ count f all
   same f = count-marks f (keys_of es) all
@@ -96,7 +96,7 @@ module _ {n : ℕ} {b w v : List ℕ} {d m : ℕ} {st : State} {t : Table} (x : 
       left' = left_by owed.owing
 
       instead : Instead l left es (txid h) c owed.owing.entries left'
-      instead = owed.enters (omega (arith, x.owing.aside.count)) (txid h) refl
+      instead = owed.enters (omega (arith, x.owing.aside.mixed.count)) (txid h) refl
 
       abbrev j : Key
       j = key_at instead.row
@@ -105,10 +105,10 @@ module _ {n : ℕ} {b w v : List ℕ} {d m : ℕ} {st : State} {t : Table} (x : 
       y = instead.row.conn
 
       free : (is_candidate n h all || leb max_peer_announcements (held_by n all)) ≡ false
-      free = barred-beside n es left x.owing.aside.ready ordered (txid h) ∙ instead.free
+      free = barred-beside n es left x.owing.aside.mixed.ready x.owing.aside.mine ordered (txid h) ∙ instead.free
 
       nowhere : waits h es ≡ false
-      nowhere = waits_not l c es left x.owing.aside.ready ordered (txid h) instead.free
+      nowhere = barred_apart es (txid h) n left instead.free
 
       unknown : is_candidate n h u ≡ false
       unknown = ap (ltb 0) (same (by_under n h)) ∙ or_left (is_candidate n h all) (leb max_peer_announcements (held_by n all)) free
@@ -119,27 +119,27 @@ module _ {n : ℕ} {b w v : List ℕ} {d m : ℕ} {st : State} {t : Table} (x : 
       announced =
           let k : (is_candidate n h u || leb max_peer_announcements (held_by n u)) ≡ false =
           rw (unknown, same (by n)) (or_right (is_candidate n h all) (leb max_peer_announcements (held_by n all)) free) in
-          let few : leb l.alternates (held_at h u) ≡ false = ap (leb l.alternates) (same (under h) ∙ at_beside n es left x.owing.aside.ready ordered h nowhere)
+          let few : leb l.alternates (held_at h u) ≡ false = ap (leb l.alternates) (same (under h) ∙ at_beside es left x.owing.aside.mixed.ready ordered h nowhere)
           ∙ lt-leb l.alternates (held_at h left) instead.room in
           let full : leb st.limit (held u) ≡ true = le-leb st.limit (held u)
-          (omega (arith, same any, held_beside n es left x.owing.aside.ready ordered, left_held x.owing, x.owing.aside.count)) in
+          (omega (arith, same any, held_beside es left x.owing.aside.mixed.ready ordered, left_held x.owing, x.owing.aside.mixed.count)) in
           let g : greatest (victims anywhere u) ≡ some (entry_at instead.row) =
-          ap greatest (victims-marks anywhere (keys_of es) all ∙ victims-pushes es left (entries-preferred n es x.parental)) ∙ instead.greatest_is in
+          ap greatest (victims-marks anywhere (keys_of es) all ∙ victims-pushes es left (entries-preferred es x.parental)) ∙ instead.greatest_is in
           when-full l (txid h) c u k few full refl ∙ ap (λ (o : Option Entry). evicting o (txid h) c u) g
 
       -- the table with it
       next_table : mark (txid h) (push (txid h) c (cut j y u)) ≡ marks (keys_of (es ++ (new ∷ []))) (pushes (es ++ (new ∷ [])) left')
       next_table =
           let g = x.together.bounded in
-          let r = x.owing.aside.ready in
+          let r = x.owing.aside.mixed.ready in
           let ks = keys_of es in
           let o = ordered-change j (λ f. with_candidates (without y f.candidates) f) 0 all (λ f. refl) (omega arith) instead.small g.ordered in
           let k = filled-change j (λ f. with_candidates (without y f.candidates) f) all g.filled in
           ap (λ (f : Table). mark (txid h) (push (txid h) c f)) (change-marks j (λ f. with_candidates (without y f.candidates) f) (λ f. refl) instead.small ks all
-          (entries-else n j.hash es r instead.apart) g.ordered g.filled)
-          ∙ ap (mark (txid h)) (change-marks (txid h) (λ f. with_candidates (f.candidates ++ (c ∷ [])) f) (λ f. refl) low ks (cut j y all) (entries-else n h es r nowhere) o k)
+          (entries-else j.hash es r instead.apart) g.ordered g.filled)
+          ∙ ap (mark (txid h)) (change-marks (txid h) (λ f. with_candidates (f.candidates ++ (c ∷ [])) f) (λ f. refl) low ks (cut j y all) (entries-else h es r nowhere) o k)
           ∙ sym (marks_more ks (txid h) (push (txid h) c (cut j y all)))
-          ∙ ap (λ (f : Table). marks (ks ++ (txid h ∷ [])) (push (txid h) c f)) (cut-pushes j y instead.small n es left r instead.apart ordered sound.bounded.filled)
+          ∙ ap (λ (f : Table). marks (ks ++ (txid h ∷ [])) (push (txid h) c f)) (cut-pushes j y instead.small es left r instead.apart ordered sound.bounded.filled)
           ∙ ap (λ (f : Table). marks (ks ++ (txid h ∷ [])) (push (txid h) c (pushes es f))) (sym instead.rest)
           ∙ ap (marks (ks ++ (txid h ∷ []))) (sym (pushes_more es new left'))
           ∙ ap (λ (f : List Key). marks f (pushes (es ++ (new ∷ [])) left')) (sym (keys_more es new))
@@ -177,7 +177,7 @@ module _ {n : ℕ} {b w v : List ℕ} {d m : ℕ} {st : State} {t : Table} (x : 
       owed_not = a.nothing refl (on_table x.base st) x.owing
 
       stays : (owed_not.owing.entries ≡ es) × (left_by owed_not.owing ≡ left) × ((announce_keyed l (some (txid h)) c all).reply ≡ false)
-      stays = owed_not.stays (sym x.owing.aside.count)
+      stays = owed_not.stays (sym x.owing.aside.mixed.count)
 
       table_same : pushes owed_not.owing.entries (left_by owed_not.owing) ≡ all
       table_same = ap (λ (f : List Entry). pushes f (left_by owed_not.owing)) stays.0 ∙ ap (pushes es) stays.1
@@ -196,8 +196,8 @@ module _ {n : ℕ} {b w v : List ℕ} {d m : ℕ} {st : State} {t : Table} (x : 
         new_there : is_candidate n h u ≡ false
         new_there =
             let f = k.new e (on_table x.base st) x.owing.sound x.owing.writes in
-            let g = k.apart e (on_table x.base st) x.owing.sound x.owing.writes owed_not.owing.entries owed_not.owing.aside in
-            ap (ltb 0) (same (by_under n h)) ∙ candidate-beside n es left x.owing.aside.ready ordered h
+            let g = k.apart e (on_table x.base st) x.owing.sound x.owing.writes owed_not.owing.entries owed_not.owing.aside.mixed in
+            ap (ltb 0) (same (by_under n h)) ∙ candidate-beside n es left x.owing.aside.mixed.ready x.owing.aside.mine ordered h
             ∙ rw (left_candidate x.owing h ∙ f, ap (waits h) (sym stays.0) ∙ g)
 
         stays_asked : one_parent l n now h i t ≡ refused u

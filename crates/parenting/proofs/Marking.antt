@@ -28,7 +28,7 @@ use Rattle.store.proofs.Bits.{key_row}
 use Rattle.announcing.proofs.GoneBy.{each_front}
 use Rattle.announcing.proofs.Swapping.{change-swap}
 use Rattle.gathering.specs.Merges.{number_of, upto, beyond, placed, gathered}
-use Rattle.gathering.specs.Waits.{Ready, waits}
+use Rattle.gathering.specs.Waits.{Small, waits}
 use Rattle.gathering.proofs.Merging.{parted, placed_is}
 use Rattle.parenting.specs.Waiting.{marks, keys_of, row_keys, TxKey, Parental}
 
@@ -135,34 +135,33 @@ module _ (st : State) where
 
 -- ---- the rows of those that wait
 
-module _ (n : ℕ) where
-  pub entries-keys : (es : List Entry) → Each (Ready n) es → Each Parental es → Each TxKey (keys_of es)
-  entries-keys [] a p = tt
-  entries-keys (e ∷ es) a p = (record { kind = p.0.kind; small = a.0.small }, entries-keys es a.1 p.1)
+pub entries-keys : (es : List Entry) → Each Small es → Each Parental es → Each TxKey (keys_of es)
+entries-keys [] a p = tt
+entries-keys (e ∷ es) a p = (record { kind = p.0.kind; small = a.0.small }, entries-keys es a.1 p.1)
 
-  pub entries-else : (h : ℕ) (es : List Entry) → Each (Ready n) es → waits h es ≡ false → Each (Else h) (keys_of es)
-  unfolding waits
-  entries-else h [] a w = tt
-  entries-else h (e ∷ es) a w =
-      let l = or_left (eqb e.key.hash h) (waits h es) w in
-      (record { small = a.0.small; other = eqb-false e.key.hash h l }, entries-else h es a.1 (or_right (eqb e.key.hash h) (waits h es) w))
+pub entries-else : (h : ℕ) (es : List Entry) → Each Small es → waits h es ≡ false → Each (Else h) (keys_of es)
+unfolding waits
+entries-else h [] a w = tt
+entries-else h (e ∷ es) a w =
+    let l = or_left (eqb e.key.hash h) (waits h es) w in
+    (record { small = a.0.small; other = eqb-false e.key.hash h l }, entries-else h es a.1 (or_right (eqb e.key.hash h) (waits h es) w))
 
-  pub entries-preferred : (es : List Entry) → Each Parental es → Each (λ (a : Entry). a.candidate.preferred ≡ true) es
-  entries-preferred [] p = tt
-  entries-preferred (e ∷ es) p = (p.0.preferred, entries-preferred es p.1)
+pub entries-preferred : (es : List Entry) → Each Parental es → Each (λ (a : Entry). a.candidate.preferred ≡ true) es
+entries-preferred [] p = tt
+entries-preferred (e ∷ es) p = (p.0.preferred, entries-preferred es p.1)
 
-module _ (n : ℕ) (t : Table) (o : Ordered 0 t) where
-  row-key : (e : Entry) → Ready n e → key_at (row_of (at e.key t) e.candidate) ≡ e.key
+module _ (t : Table) (o : Ordered 0 t) where
+  row-key : (e : Entry) → Small e → key_at (row_of (at e.key t) e.candidate) ≡ e.key
   row-key e r = key_row (at e.key t) e.candidate ∙ at_key e.key 0 t r.small o
 
-  pub keys-gathered : (es : List Entry) (ys : List Row) → Each (Ready n) es → Each Parental es → Each TxKey (row_keys ys) → Each TxKey (row_keys (gathered t es ys))
+  pub keys-gathered : (es : List Entry) (ys : List Row) → Each Small es → Each Parental es → Each TxKey (row_keys ys) → Each TxKey (row_keys (gathered t es ys))
   unfolding gathered
   keys-gathered [] ys a p k = k
   keys-gathered (e ∷ es) ys a p k =
       let x : TxKey (key_at (row_of (at e.key t) e.candidate)) = subst TxKey (sym (row-key e a.0)) (record { kind = p.0.kind; small = a.0.small }) in
       keys-gathered es (placed (row_of (at e.key t) e.candidate) ys) a.1 p.1 (keys-placed (row_of (at e.key t) e.candidate) ys x k)
 
-  pub marks-gathered : (st : State) (u : Table) → Sound (on_table u st) → (es : List Entry) (ys : List Row) → Each (Ready n) es → Each Parental es → Each TxKey (row_keys ys)
+  pub marks-gathered : (st : State) (u : Table) → Sound (on_table u st) → (es : List Entry) (ys : List Row) → Each Small es → Each Parental es → Each TxKey (row_keys ys)
       → marks (row_keys (gathered t es ys)) u ≡ marks (keys_of es) (marks (row_keys ys) u)
   unfolding gathered marks
   marks-gathered st u s [] ys a p k = refl

@@ -15,6 +15,7 @@ use Rattle.requests.proofs.Keeping.{sized_of}
 use Rattle.gathering.specs.Merges.{gathered}
 use Rattle.gathering.specs.Waits.{pushes}
 use Rattle.gathering.specs.Aside.{space, Empty}
+use Rattle.gathering.proofs.OneMore.{nobody_aside}
 use Rattle.parenting.specs.Waiting.{marks, keys_of, Beside, LetIn}
 use Rattle.parenting.specs.Displacing.{Spent, Reserve, unlisted, Supplied, Settled, Finished}
 
@@ -38,7 +39,7 @@ module _ {n : ℕ} {b w : List ℕ} {st : State} {t : Table} where
     parental = tt;
     sound = s;
     writes = g;
-    aside = record { ready = tt; idle = tt; count = refl; rows = e };
+    aside = nobody_aside e;
     room = omega (arith, (sized_of (on_table t st) s).rows_few, held-rows t);
     together = s;
     table = refl;
@@ -49,7 +50,7 @@ module _ {n : ℕ} {b w : List ℕ} {st : State} {t : Table} where
 
   module _ (v : Beside n b w 0 st t) where
     whole : t ≡ v.base
-    whole = apart_none v.entries v.aside.count v.table
+    whole = apart_none v.entries v.aside.mixed.count v.table
 
     pub none_sound : Sound (on_table t st)
     none_sound = subst (λ (u : Table). Sound (on_table u st)) (sym whole) v.sound
@@ -58,7 +59,7 @@ module _ {n : ℕ} {b w : List ℕ} {st : State} {t : Table} where
     none_writes = subst (λ (u : Table). Writes b (on_table u st)) (sym whole) v.writes
 
     pub none_empty : Empty w
-    none_empty = empty_none v.entries v.base v.aside.count v.aside.rows
+    none_empty = empty_none v.entries v.base v.aside.mixed.count v.aside.mixed.rows
 
 -- they have come in, once none waits
 pub finished : {n d e : ℕ} {b b₁ b' w w₁ w' v : List ℕ} {q : Reserve} → Settled n b b₁ w w₁ v d e q → LetIn n b₁ b' w₁ w' e → Finished n b b' w v d q

@@ -20,6 +20,7 @@ use Rattle.gathering.specs.Merges.{gathered}
 use Rattle.gathering.specs.Waits.{pushes}
 use Rattle.gathering.specs.Deferring.{left_by, Gone}
 use Rattle.gathering.proofs.Deferral.{left_sound, left_held, left_aside}
+use Rattle.gathering.proofs.OneMore.{nobody_aside}
 use Rattle.parenting.specs.Waiting.{marks, Beside, Waits, LetIn}
 use Rattle.parenting.specs.Displacing.{Spent, Reserve, unlisted, Lacks, Owes, Supplied, Supplies, Restocked, Settled}
 use Rattle.parenting.proofs.Starting.{none_sound, none_writes, none_empty}
@@ -70,7 +71,7 @@ module _ {n : ℕ} {b w v : List ℕ} {d : ℕ} {q : Reserve} where
             listed = h.listed (on_table t st) s g;
             few = omega arith;
             entries = [];
-            aside = record { ready = tt; idle = tt; count = refl; rows = none_empty y };
+            aside = nobody_aside (none_empty y);
             preferred = tt;
             apart = tt;
           };

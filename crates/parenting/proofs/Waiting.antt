@@ -40,8 +40,9 @@ use Rattle.gathering.specs.Merges.{gathered}
 use Rattle.gathering.specs.Waits.{pushes, waits}
 use Rattle.gathering.specs.Aside.{space, Empty, Aside, Joined, Enters, SetAside, ComeIn}
 use Rattle.gathering.proofs.ComingIn.{length-gathered}
-use Rattle.gathering.proofs.Faring.{each_more, set-same}
-use Rattle.gathering.proofs.Waiting.{pushes_more, new_beside, room-beside}
+use Rattle.gathering.proofs.OneMore.{each_more}
+use Rattle.gathering.proofs.Faring.{set-same}
+use Rattle.gathering.proofs.Waiting.{pushes_more, admits_new, admits_done}
 use Rattle.announcing.proofs.Lent.{hash_low}
 use Rattle.parenting.specs.declared.parent.Parent.{Parent}
 use Rattle.parenting.specs.contracts.parent.Parent as P
@@ -78,26 +79,26 @@ module _ {n : ℕ} {b w : List ℕ} {d : ℕ} {st : State} {t : Table} (v : Besi
   theirs = gathered v.base v.entries []
 
   keys : Each TxKey (keys_of v.entries)
-  keys = entries-keys n v.entries v.aside.ready v.parental
+  keys = entries-keys v.entries v.aside.mixed.ready v.parental
 
   keys_in : Each TxKey (row_keys theirs)
-  keys_in = keys-gathered n v.base v.sound.bounded.ordered v.entries [] v.aside.ready v.parental tt
+  keys_in = keys-gathered v.base v.sound.bounded.ordered v.entries [] v.aside.mixed.ready v.parental tt
 
   so-many : length theirs ≡ d
-  so-many = omega (arith, length-gathered v.base v.entries [], v.aside.count)
+  so-many = omega (arith, length-gathered v.base v.entries [], v.aside.mixed.count)
 
   module _ {b₁ : List ℕ} (c : ComeIn b b₁ n w d) where
     came : Writes b₁ (on_table all st)
     came = c (on_table v.base st) v.sound v.writes v.entries v.aside
 
     pub came_markable : Markable b₁ w d
-    came_markable = record { state = on_table all st; sound = v.together; writes = came; space = space; rows = theirs; count = so-many; holds = v.aside.rows; keys = keys_in }
+    came_markable = record { state = on_table all st; sound = v.together; writes = came; space = space; rows = theirs; count = so-many; holds = v.aside.mixed.rows; keys = keys_in }
 
     pub came_in : {b₂ w₂ : List ℕ} → RowsMarked b₁ b₂ w d → Empty w₂ → Beside n b₂ w₂ 0 st t
     unfolding marks
     came_in {b₂} {w₂} m e =
-        let q = marks-gathered n v.base v.sound.bounded.ordered st all v.together v.entries [] v.aside.ready v.parental tt in
-        let g = m space theirs so-many v.aside.rows keys_in (on_table all st) v.together came in
+        let q = marks-gathered v.base v.sound.bounded.ordered st all v.together v.entries [] v.aside.mixed.ready v.parental tt in
+        let g = m space theirs so-many v.aside.mixed.rows keys_in (on_table all st) v.together came in
         subst (Beside n b₂ w₂ 0 st) (sym v.table)
         (beside_none (sound-marks st (keys_of v.entries) all keys v.together) (subst (λ (u : Table). Writes b₂ (on_table u st)) q g) e)
 
@@ -139,31 +140,28 @@ module _ {n now h i : ℕ} {b w : List ℕ} {d : ℕ} {st : State} {t : Table} (
   joined = (a.waits refl).joined (on_table v.base st) v.sound v.writes es v.aside
 
   enters : Enters m v.base es (txid h) c joined.entries
-  enters = joined.enters (omega (arith, v.aside.count)) (txid h) refl
+  enters = joined.enters (omega (arith, v.aside.mixed.count)) (txid h) refl
 
   same : (q : Key → ℕ → Bool) → count q u ≡ count q (pushes es v.base)
   same q = count-marks q (keys_of es) (pushes es v.base)
-
-  nowhere : waits h es ≡ false
-  nowhere = or_right (is_candidate n h v.base) (waits h es) (or_left (is_candidate n h v.base || waits h es) (leb max_peer_announcements (held_by n v.base + length es)) enters.free)
 
   asked : request_parent_at m (txid h) c u ≡ done (push (txid h) c u)
   unfolding request_parent_at
   asked =
       let o = v.sound.bounded.ordered in
-      let fresh = new_beside m c es v.base v.aside.ready o (txid h) enters.free enters.roomy u same in
+      let fresh = admits_new enters.admits v.aside.mixed.ready o u same in
       let x = has n (at (txid h) u).candidates in
       let y = has n (at (wtxid h) u).candidates in
       let k = sound-marks st (keys_of es) (pushes es v.base) (keys v) v.together in
       let neither : (x || y) ≡ false = either-kind n h low u k.bounded.ordered ∙ fresh in
-      rw (or_left x y neither, or_right x y neither) (room-beside m c es v.base v.aside.ready o (txid h) enters.free enters.roomy u same)
+      rw (or_left x y neither, or_right x y neither) (admits_done enters.admits v.aside.mixed.ready o u same)
 
   -- the table with it
   next_table : mark (txid h) (push (txid h) c u) ≡ marks (keys_of (es ++ (new ∷ []))) (pushes (es ++ (new ∷ [])) v.base)
   next_table =
       let g = v.together.bounded in
       let ks = keys_of es in
-      ap (mark (txid h)) (push-marks (txid h) c ks (pushes es v.base) low (entries-else n h es v.aside.ready nowhere) g.ordered g.filled)
+      ap (mark (txid h)) (push-marks (txid h) c ks (pushes es v.base) low (entries-else h es v.aside.mixed.ready enters.admits.apart) g.ordered g.filled)
       ∙ sym (marks_more ks (txid h) (push (txid h) c (pushes es v.base)))
       ∙ ap (marks (ks ++ (txid h ∷ []))) (sym (pushes_more es new v.base))
       ∙ ap (λ (l : List Key). marks l (pushes (es ++ (new ∷ [])) v.base)) (sym (keys_more es new))
@@ -185,7 +183,7 @@ module _ {n now h i : ℕ} {b w : List ℕ} {d : ℕ} {st : State} {t : Table} (
     sound = v.sound;
     writes = v.writes;
     aside = subst (λ (l : List Entry). Aside n v.base l w' (d + 1)) enters.last joined.aside;
-    room = joined.room (omega (arith, v.room, v.aside.count));
+    room = joined.room (omega (arith, v.room, v.aside.mixed.count));
     together = all_there;
     table = next_table;
   }

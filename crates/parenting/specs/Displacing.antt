@@ -10,7 +10,7 @@ use Rattle.requests.specs.Changes.{Tells}
 use Rattle.announcing.specs.Answers.{one_parent}
 use Rattle.announcing.specs.Falls.{VictimsIn}
 use Rattle.gathering.specs.Waits.{pushes, waits}
-use Rattle.gathering.specs.Aside.{Aside}
+use Rattle.gathering.specs.Aside.{Mixed}
 use Rattle.gathering.specs.Deferring.{Owing, left_by}
 use Rattle.gathering.specs.declared.beside.Fare.{Fare}
 use Rattle.gathering.specs.declared.beside.Fare.TheVariants as fare
@@ -59,7 +59,7 @@ pub record ShutOut (b : List ℕ) (h n : ℕ) (r : Bool) : Type 0 where
 -- r of false: the connection n has announced the hash h under neither kind, and none of the d that wait is at it
 pub record Unknown (b w : List ℕ) (d h n : ℕ) (r : Bool) : Type 0 where
   pub new : r ≡ false → (st : State) → Sound st → Writes b st → is_candidate n h st.table ≡ false
-  pub apart : r ≡ false → (st : State) → Sound st → Writes b st → (es : List Entry) → Aside n st.table es w d → waits h es ≡ false
+  pub apart : r ≡ false → (st : State) → Sound st → Writes b st → (es : List Entry) → Mixed st.table es w d → waits h es ≡ false
 
 -- one parent, announced where no candidate can be evicted
 pub record Unaided (b b' : List ℕ) (n now h i : ℕ) (r : Bool) : Type 0 where

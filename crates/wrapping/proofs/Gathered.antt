@@ -29,6 +29,7 @@ use Rattle.gathering.specs.Counted.{then_wait}
 use Rattle.gathering.specs.Merges.{gathered}
 use Rattle.gathering.specs.Waits.{pushes}
 use Rattle.gathering.specs.Aside.{space, Empty, JoinedIn, SetAside, ComeIn}
+use Rattle.gathering.proofs.OneMore.{nobody_aside}
 use Rattle.wrapping.specs.declared.offering.Terms.{Terms}
 use Rattle.claims.specs.Changes.{Becomes}
 use Rattle.wrapping.specs.Batches.{between, announced, Offers, Collects}
@@ -51,7 +52,7 @@ collects_start a os {i} e l = record {
   few = omega arith;
   collected = λ st s g. record {
     entries = [];
-    aside = record { ready = tt; idle = tt; count = refl; rows = e };
+    aside = nobody_aside e;
     room = omega (arith, (sized_of st s).rows_few, held-rows st.table);
     table = ap (λ (l : List Offer). announced a l (limits_of st) st.table) (between_none i os)
         ∙ offers_none (limits_of st) a.connection.number a.clock.time a.preferred a.source a.late st.table;
@@ -77,7 +78,7 @@ module _ {b w : List ℕ} {a : Terms} {os : List Offer} {i j d : ℕ} (x : Colle
         record {
           entries = k.entries;
           aside = k.aside;
-          room = k.room (omega (arith, z.room, z.aside.count));
+          room = k.room (omega (arith, z.room, z.aside.mixed.count));
           table =
               sym (announced-join a m os t i j (j + 1) x.from (omega arith)) ∙ announced_one a m os (announced a (between i j os) m t) j an_offer l
               ∙ ap (λ (u : Table). (announce m (made a os j) u).table) z.table ∙ k.table;

@@ -30,6 +30,7 @@ use Rattle.gathering.specs.Aside.{space, Empty, Gathers, ComeIn}
 use Rattle.gathering.specs.Deferring.{Owing, left_by, OwedIn, Deferred, Gone}
 use Rattle.gathering.proofs.Deferral.{left_sound, left_held, left_fallen, left_aside}
 use Rattle.gathering.proofs.Elsewhere.{victims-pushes}
+use Rattle.gathering.proofs.OneMore.{nobody_aside}
 use Rattle.gathering.proofs.Waiting.{held_beside}
 use Rattle.wrapping.specs.declared.offering.Terms.{Terms}
 use Rattle.claims.specs.Changes.{Becomes}
@@ -53,7 +54,7 @@ swaps_start a os {i} e x h l = record {
       listed = x.listed st s g;
       few = omega arith;
       entries = [];
-      aside = record { ready = tt; idle = tt; count = refl; rows = e };
+      aside = nobody_aside e;
       preferred = tt;
       apart = tt;
     };
@@ -136,7 +137,7 @@ module _ {b w v : List ℕ} {m : ℕ} {a : Terms} {os : List Offer} {i j d : ℕ
           let u = left_by z in
           let none : victims anywhere u ≡ [] = nobody-listed (on_table u st) (left_sound z) (omega (arith, left_fallen z)) in
           announced-nobody a l (limits_of st) (pushes z.entries u) p
-          (omega (arith, left_held z, z.aside.count, held_beside a.connection.number z.entries u z.aside.ready (left_sound z).bounded.ordered))
+          (omega (arith, left_held z, z.aside.mixed.count, held_beside z.entries u z.aside.mixed.ready (left_sound z).bounded.ordered))
           (victims-pushes z.entries u z.preferred ∙ none)
 
       pub swaps_settled : Settled b b₂ m a os i j d
