@@ -17,7 +17,7 @@ use Rattle.machine.proofs.At.{at_here, at_there}
 use Rattle.machine.proofs.First.{keep_some, change_first, change-later}
 use Rattle.machine.proofs.Table.{at_absent}
 use Rattle.machine.proofs.Tests.{test, by_test, order}
-use Rattle.failing.proofs.Fusing.{GivesNone, keep_none, change_none}
+use Rattle.failing.proofs.Fusing.{GivesNone, keep_none, change-before}
 use Rattle.postponing.specs.Silent.{late, dropped_in, dropped_all}
 
 -- ---- a request that is kept if it has a candidate
@@ -31,7 +31,7 @@ unfolding keep
 ordered_keep lo r [] t h s o = weaken lo _ t (omega arith) o
 ordered_keep lo r (c ∷ cs) t h s o = (h, s, o)
 
-all_keep : (P : Request → Type 0) (r : Request) (cs : List Candidate) (t : Table) → r.candidates ≡ cs → (1 ≤ length r.candidates → P r) → All P t → All P (keep r cs t)
+pub all_keep : (P : Request → Type 0) (r : Request) (cs : List Candidate) (t : Table) → r.candidates ≡ cs → (1 ≤ length r.candidates → P r) → All P t → All P (keep r cs t)
 unfolding keep
 all_keep P r [] t e p a = a
 all_keep P r (c ∷ cs) t e p a = (p (omega (arith, ap length e)), a)
@@ -45,14 +45,14 @@ module _ (v : ℕ) where
   dropped_key : (r : Request) → (dropped_in v r).key ≡ r.key
   dropped_key r = by_test (λ (q : Request). q.key ≡ r.key) (late v r.owner) (λ e. refl) (λ e. refl)
 
-  ordered_dropped : (lo : ℕ) (t : Table) → Ordered lo t → Ordered lo (dropped_all v t)
+  pub ordered_dropped : (lo : ℕ) (t : Table) → Ordered lo t → Ordered lo (dropped_all v t)
   unfolding dropped_all
   ordered_dropped lo [] o = tt
   ordered_dropped lo (r ∷ t) o =
       let e = dropped_key r in
       ordered_keep lo (dropped_in v r) (dropped_in v r).candidates (dropped_all v t) (rw e o.0) (rw e o.1) (rw e (ordered_dropped (suc (place r.key)) t o.2))
 
-  filled_dropped : (t : Table) → All Filled (dropped_all v t)
+  pub filled_dropped : (t : Table) → All Filled (dropped_all v t)
   unfolding dropped_all
   filled_dropped [] = tt
   filled_dropped (r ∷ t) = all_keep Filled (dropped_in v r) (dropped_in v r).candidates (dropped_all v t) refl (λ h. h) (filled_dropped t)
@@ -91,15 +91,11 @@ module _ (v : ℕ) where
 
   -- ---- a change before they go is a change behind them
 
-  module _ (k : Key) (f g : Request → Request) (some : (r : Request) → 1 ≤ length r.candidates → 1 ≤ length (f r).candidates) (fn : GivesNone f) (gn : GivesNone g)
-      (gb : g (blank k) ≡ blank k) where
-    absent : (lo : ℕ) (u : Table) → place k < lo → Ordered lo u → All Filled u → change k g u ≡ u
-    absent lo u h o a = change_none k g lo u o a (ap g (at_absent k lo u h o) ∙ gb ∙ sym (at_absent k lo u h o))
-
-    kept_first : (x : Request) (cs : List Candidate) (lo : ℕ) (u : Table) → x.candidates ≡ cs → place k ≡ place x.key → place k < lo → Ordered lo u → All Filled u
+  module _ (k : Key) (f g : Request → Request) (some : (r : Request) → 1 ≤ length r.candidates → 1 ≤ length (f r).candidates) (fn : GivesNone f) (gn : GivesNone g) where
+    kept_first : (x : Request) (cs : List Candidate) (lo : ℕ) (u : Table) → x.candidates ≡ cs → place k ≡ place x.key → place k < lo → Ordered lo u
         → keep (g x) (g x).candidates u ≡ change k g (keep x cs u)
-    kept_first x [] lo u q e h o a = unfold keep in (keep_none (g x) (g x).candidates u (gn x q) ∙ sym (absent lo u h o a))
-    kept_first x (c ∷ cs) lo u q e h o a = unfold keep in (sym (change_first k g x u e))
+    kept_first x [] lo u q e h o = unfold keep in (keep_none (g x) (g x).candidates u (gn x q) ∙ sym (change-before k g lo u gn h o))
+    kept_first x (c ∷ cs) lo u q e h o = unfold keep in (sym (change_first k g x u e))
 
     kept_later : (x : Request) (cs : List Candidate) (u : Table) → place x.key < place k → keep x cs (change k g u) ≡ change k g (keep x cs u)
     kept_later x [] u h = unfold keep in refl
@@ -110,7 +106,7 @@ module _ (v : ℕ) where
     dropped_before r t h s o =
         let same : change k f (r ∷ t) ≡ r ∷ t = unfold change in
         rw (lt-ltb (place k) (place r.key) h) (keep_none (f (blank k)) ((f (blank k)).candidates) (r ∷ t) (fn (blank k) refl)) in
-        ap (dropped_all v) same ∙ sym (absent (place r.key) (dropped_all v (r ∷ t)) h (ordered_dropped (place r.key) (r ∷ t) (omega arith, s, o)) (filled_dropped (r ∷ t)))
+        ap (dropped_all v) same ∙ sym (change-before k g (place r.key) (dropped_all v (r ∷ t)) gn h (ordered_dropped (place r.key) (r ∷ t) (omega arith, s, o)))
 
     dropped_first : (r : Request) (t : Table) → place k ≡ place r.key → Filled r → Ordered (suc (place r.key)) t → dropped_in v (f r) ≡ g (dropped_in v r)
         → dropped_all v (change k f (r ∷ t)) ≡ change k g (dropped_all v (r ∷ t))
@@ -119,7 +115,7 @@ module _ (v : ℕ) where
         ∙ (unfold dropped_all in
         (ap (λ (x : Request). keep x x.candidates (dropped_all v t)) q
         ∙ kept_first (dropped_in v r) (dropped_in v r).candidates (suc (place r.key)) (dropped_all v t) refl (e ∙ ap place (sym (dropped_key r))) (omega arith)
-        (ordered_dropped (suc (place r.key)) t o) (filled_dropped t)))
+        (ordered_dropped (suc (place r.key)) t o)))
 
     dropped_later : (r : Request) (t : Table) → place r.key < place k → dropped_all v (change k f t) ≡ change k g (dropped_all v t)
         → dropped_all v (change k f (r ∷ t)) ≡ change k g (dropped_all v (r ∷ t))

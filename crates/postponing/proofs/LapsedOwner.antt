@@ -48,7 +48,7 @@ ready_dropped now r = elim (test (late 0 r.owner)) [
 
 dropped_ready : (now : ℕ) (j : Key) (u : Table) → Ordered 0 u → All Filled u → dropped_all 0 (change j (readied now) u) ≡ change j (readied now) (dropped_all 0 u)
 dropped_ready now j u o a =
-    dropped_change 0 j (readied now) (readied now) (λ r h. some_ready now r.candidates h) (λ r e. ap (map (ready_at now)) e) (λ r e. ap (map (ready_at now)) e) refl 0 u o a
+    dropped_change 0 j (readied now) (readied now) (λ r h. some_ready now r.candidates h) (λ r e. ap (map (ready_at now)) e) (λ r e. ap (map (ready_at now)) e) 0 u o a
     (ready_dropped now (at j u))
 
 dropped_both : (now : ℕ) (k : Key) (u : Table) → k.hash < top → Ordered 0 u → All Filled u → dropped_all 0 (readied_both now k u) ≡ readied_both now k (dropped_all 0 u)
@@ -70,10 +70,6 @@ unburdened_ready : (now : ℕ) (j : Key) (u : Table) → Ordered 0 u → Unburde
 unburdened_ready now j u o a = all_change (Bare 0) j (readied now) 0 u o (λ e. ready_none now (at j u) (all_at (Bare 0) j u (λ d. never d) a e)) a
 
 -- ---- the owner's deadline is 0
-
-gone_blank : (n : ℕ) (k : Key) → gone n (blank k) ≡ blank k
-unfolding without
-gone_blank n k = refl
 
 overdue_goes : (n : ℕ) (r : Request) → late 0 r.owner ≡ false → dropped_in 0 (overdue n r) ≡ gone n (dropped_in 0 r)
 overdue_goes n r e = rw e refl
@@ -130,7 +126,7 @@ module _ {m : Limits} {Q : ℕ} {t : Table} (b : Bounded m Q t) (k : Key) (s : k
         let f = and_left (releasable n r) (alive 0 r.owner) e in
         let same = at_stays 0 k t b.filled l in
         dropped_both now k (change k (overdue n) t) s bounded_overdue.ordered bounded_overdue.filled
-        ∙ ap (readied_both now k) (dropped_change 0 k (overdue n) (gone n) (λ r h. h) (λ r e. e) (gone_none n) (gone_blank n k) 0 t b.ordered b.filled (overdue_goes n r l))
+        ∙ ap (readied_both now k) (dropped_change 0 k (overdue n) (gone n) (λ r h. h) (λ r e. e) (gone_none n) 0 t b.ordered b.filled (overdue_goes n r l))
         ∙ sym (both_swap n now k s k (dropped_all 0 t) s b'.ordered b'.filled)
         ∙ sym (failed_is now k n s b' (ap (λ (r : Request). owner_is n r.owner) same ∙ own) (ap (releasable n) same ∙ f))
 

@@ -1,2 +1,3 @@
 pub mod Silent
 pub mod Lapses
+pub mod Pending
