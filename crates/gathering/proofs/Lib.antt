@@ -7,6 +7,7 @@ pub mod InOrder
 pub mod Looking
 pub mod OneMore
 pub mod Faring
+pub mod CountingIn
 pub mod Arriving
 pub mod Elsewhere
 pub mod Deferral
