@@ -91,10 +91,10 @@ owner-has n none cs e f = never e
 owner-has n (some o) cs e f = ap (λ (m : ℕ). has m cs) (sym (eqb-true o.connection n e)) ∙ f.0
 
 module _ {m : Limits} {Q : ℕ} {t : Table} (now : ℕ) (k : Key) (n : ℕ) (s : k.hash < top) (b : Bounded m Q t) (own : owner_is n (at k t).owner ≡ true) where
-  here_has : has n (at k t).candidates ≡ true
+  pub here_has : has n (at k t).candidates ≡ true
   here_has = owner-has n (at k t).owner (at k t).candidates own (lawful_at k t b.lawful).owner
 
-  other_has : has n (at (other k) t).candidates ≡ false
+  pub other_has : has n (at (other k) t).candidates ≡ false
   other_has = by_kind k.kind refl
     where
       both : count_in (λ i. eqb i n) (at (txid k.hash) t).candidates + count_in (λ i. eqb i n) (at (wtxid k.hash) t).candidates ≤ 1

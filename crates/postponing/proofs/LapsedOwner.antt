@@ -6,9 +6,9 @@ use mathlib.Core.Bool.{Bool, true, false}
 use mathlib.Core.List.{List, [], ◌∷◌, map}
 use mathlib.Core.Option.{Option, none, some}
 use native.Mathlib.Omega.{arith}
-use lib.Dec.{leb}
+use lib.Dec.{ltb, leb}
 use lib.ListN.{length}
-use borrow.Author.Tests.{eqb-true, leb-true, ltb-true}
+use borrow.Author.Tests.{eqb-true, le-leb, leb-true, ltb-true, ltb-false}
 use Rattle.ident.specs.Number.{Key, top, other}
 use Rattle.machine.specs.Limits.{Limits, word}
 use Rattle.machine.specs.State.{Candidate, Owner, Request, Table, blank, with_candidates, unowned, owned_until, ready_at, owner_is}
@@ -61,6 +61,10 @@ dropped_both now k u s o a =
 alive_timely : (o : Option Owner) → alive 0 o ≡ true → late 0 o ≡ false
 alive_timely none e = refl
 alive_timely (some o) e = elim (test (leb o.deadline 0)) [ inl l ↦ absurd (omega (arith, leb-true o.deadline 0 l, ltb-true 0 o.deadline e)) | inr l ↦ l ]
+
+pub owner_waits : (n : ℕ) (o : Option Owner) → owner_is n o ≡ true → late 0 o ≡ false → alive 0 o ≡ true
+owner_waits n none e l = never e
+owner_waits n (some o) e l = elim (test (ltb 0 o.deadline)) [ inl a ↦ a | inr a ↦ never (sym l ∙ le-leb o.deadline 0 (omega (arith, ltb-false 0 o.deadline a))) ]
 
 -- a request whose owner is late has no place
 abbrev Bare : ℕ → Request → Type 0

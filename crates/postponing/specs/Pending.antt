@@ -4,12 +4,12 @@ use Rattle.ident.specs.Number.{Key, txid, wtxid}
 use Rattle.machine.specs.State.{Entry, Table, State, limits_of, on_table, owner_is}
 use Rattle.machine.specs.Table.{at, held}
 use Rattle.machine.specs.Fail.{failed}
-use Rattle.machine.specs.Sound.{All, Sound}
+use Rattle.machine.specs.Sound.{Ordered, All, Sound}
 use Rattle.machine.specs.Typed.{Each}
 use Rattle.store.specs.Image.{Writes}
 use Rattle.package_stages.specs.Changes.{has_place}
 use Rattle.announcing.specs.Answers.{one_parent}
-use Rattle.gathering.specs.Waits.{pushes}
+use Rattle.gathering.specs.Waits.{pushes, waits}
 use Rattle.gathering.specs.Aside.{Mixed}
 use Rattle.parenting.specs.Waiting.{marks, keys_of, Parental}
 use Rattle.parenting.specs.Displacing.{Spent}
@@ -60,6 +60,11 @@ pub record Pends (b w : List ℕ) (d c : ℕ) : Type 0 where
 -- the connection n owns the request at k, and has not failed there
 abbrev pub OwnsInTime : ℕ → Key → Table → Type 0
 OwnsInTime n k t = (owner_is n (at k t).owner ≡ true) × (late 0 (at k t).owner ≡ false)
+
+-- none waits at the hash h: d' wait then, and c' are to go
+pub record Cleared (b b' w w' : List ℕ) (d d' c c' h : ℕ) : Type 0 where
+  pub pending : (st : State) (t : Table) → Pending b w d c st t → Pending b' w' d' c' st t
+  pub apart : (t : Table) → Ordered 0 t → (es : List Entry) → Mixed t es w' d' → waits h es ≡ false
 
 -- the owner n of the request at k has failed: d' wait then, and c' are to go
 abbrev pub FailsLater : List ℕ → List ℕ → List ℕ → List ℕ → ℕ → ℕ → ℕ → ℕ → Key → ℕ → ℕ → Type 0

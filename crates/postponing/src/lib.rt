@@ -6,4 +6,6 @@
 
 pub mod among;
 pub mod lapsing;
+pub mod later;
+pub mod settling;
 pub mod silent;

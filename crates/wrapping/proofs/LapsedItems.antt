@@ -38,13 +38,9 @@ use Rattle.lent_lists.proofs.Answer.{written_more, written_none}
 use Rattle.wrapping.proofs.Unfound.{listed_as, nothing-listed}
 use Rattle.wrapping.proofs.Turning.{Steady, bounded_turns}
 use Rattle.postponing.proofs.Dropped.{dropped_timely, at_stays, at_goes}
-use Rattle.postponing.proofs.LapsedOwner.{bounded_lapsed, unburdened_lapsed, lapsed_goes, lapsed_reply}
+use Rattle.postponing.proofs.LapsedOwner.{owner_waits, bounded_lapsed, unburdened_lapsed, lapsed_goes, lapsed_reply}
 
 -- ---- one request
-
-owner_waits : (n : ℕ) (o : Option Owner) → owner_is n o ≡ true → late 0 o ≡ false → alive 0 o ≡ true
-owner_waits n none e l = never e
-owner_waits n (some o) e l = elim (test (ltb 0 o.deadline)) [ inl a ↦ a | inr a ↦ never (sym l ∙ le-leb o.deadline 0 (omega (arith, ltb-false 0 o.deadline a))) ]
 
 module _ {m : Limits} {Q : ℕ} {t : Table} (b : Bounded m Q t) (n : ℕ) (k : Key) where
   owner-lapses : lapses n (at k t) ≡ true → owner_is n (at k t).owner ≡ true
