@@ -1,14 +1,13 @@
 -- Candidates that come in together, in the flat state: rows merged, the tally raised, places as they were.
 use Prim.Native.Nat.{ℕ, suc, ◌+◌, ◌<◌}
 use mathlib.Core.Path.{◌≡◌, refl, sym, ap, subst, ◌∙◌}
-use mathlib.Core.Bool.{false}
 use mathlib.Core.List.{List, [], ◌∷◌, ◌++◌, append_assoc}
 use native.Mathlib.Omega.{arith}
 use lib.ListN.{length, take, get_or}
 use lib.Seq.{take-suc}
 use Rattle.regions.specs.declared.Row.{Row}
 use Rattle.regions.specs.declared.Conn.{Conn}
-use Rattle.machine.specs.State.{Entry, State, Table, on_table, owner_is}
+use Rattle.machine.specs.State.{Entry, State, Table, on_table}
 use Rattle.machine.specs.Table.{at, one}
 use Rattle.machine.specs.Announce.{push}
 use Rattle.machine.specs.Sound.{Ordered, Sound}

@@ -10,13 +10,13 @@ use lib.ListN.{length, take, get_or}
 use lib.Seq.{length-take-le}
 use Rattle.regions.specs.declared.Row.{Row}
 use Rattle.regions.specs.declared.Conn.{Conn}
-use Rattle.regions.specs.Regions.{Holds, Found}
+use Rattle.regions.specs.Regions.{Found}
 use Rattle.regions.specs.Rows.{row_size, row_words, read_row}
 use Rattle.machine.specs.Limits.{max_announcements}
 use Rattle.machine.specs.Typed.{Each}
 use Rattle.machine.proofs.Tests.{test}
 use Rattle.store.specs.Counting.{raise}
-use Rattle.store.specs.Flat.{Flat, bump, tally}
+use Rattle.store.specs.Flat.{bump, tally}
 use Rattle.store.specs.FlatSound.{count_rows, owns}
 use Rattle.store.specs.Image.{Shows}
 use Rattle.store.specs.Shown.{conns_in, limit_in, half, Light, Shown, with_conns, Tallies}

@@ -23,7 +23,7 @@ use Rattle.machine.specs.Sound.{Ordered, Sound}
 use Rattle.machine.specs.Typed.{Each}
 use Rattle.machine.proofs.Announce.{each_append as Each-both, each_map}
 use Rattle.machine.proofs.At.{at_other}
-use Rattle.machine.proofs.Tests.{test, or_left, or_right}
+use Rattle.machine.proofs.Tests.{test}
 use Rattle.store.specs.Flat.{rows_of}
 use Rattle.store.specs.Gather.{key_at, candidate_at}
 use Rattle.store.proofs.Counts.{eqb-sym}

@@ -26,6 +26,33 @@ use Rattle.gathering.specs.Merges.{placed, gathered}
 use Rattle.gathering.specs.Waits.{pushes, Small, Idle, waits}
 use Rattle.gathering.specs.Aside.{space, Mixed, Aside}
 
+-- ---- a table whose requests under their keys are the same
+
+-- under the key of a both tables have the same
+abbrev pub SameAt : Table → Table → Entry → Type 0
+SameAt t u a = at a.key u ≡ at a.key t
+
+module _ (t u : Table) where
+  gathered_by : (es : List Entry) (ys : List Row) → Each (SameAt t u) es → gathered u es ys ≡ gathered t es ys
+  unfolding gathered
+  gathered_by [] ys s = refl
+  gathered_by (e ∷ es) ys s = rw s.0 (gathered_by es (placed (row_of (at e.key t) e.candidate) ys) s.1)
+
+  idle_by : (es : List Entry) → Each (SameAt t u) es → Idle t es → Idle u es
+  idle_by [] s i = tt
+  idle_by (e ∷ es) s i = (rw s.0 i.0, idle_by es s.1 i.1)
+
+  pub mixed_by : {d : ℕ} {es : List Entry} {w : List ℕ} → Each (SameAt t u) es → Mixed t es w d → Mixed u es w d
+  mixed_by {d} {es} {w} s a = record {
+    ready = a.ready;
+    idle = idle_by es s a.idle;
+    single = a.single;
+    count = a.count;
+    rows = subst (λ (ys : List Row). Holds row_size row_words space ys w) (sym (gathered_by es [] s)) a.rows;
+  }
+
+-- ---- a request at another hash than theirs
+
 module _ (j : Key) (small : j.hash < top) where
   elsewhere : (k : Key) → k.hash < top → eqb k.hash j.hash ≡ false → place k ≡ place j → ⊥
   elsewhere k s e q = eqb-false k.hash j.hash e (ap (λ (i : Key). i.hash) (place-inj k j s small q))
@@ -47,32 +74,16 @@ module _ (j : Key) (f : Request → Request) (keeps : KeepsKey f) (small : j.has
       (ordered-change e.key _ 0 t (λ r. refl) (omega arith) a.0.small o) (filled-change e.key _ t l)
       ∙ ap (pushes es) (change-swap j e.key f (λ r. with_candidates (r.candidates ++ (e.candidate ∷ [])) r) t small a.0.small (λ z. d (sym z)) keeps (λ r. refl) o l)
 
-  at_still : (e : Entry) (t : Table) → Small e → eqb e.key.hash j.hash ≡ false → at e.key (change j f t) ≡ at e.key t
-  at_still e t r w = at_other e.key j f t keeps (elsewhere j small e.key r.small w)
-
-  gathered_still : (es : List Entry) (t : Table) (ys : List Row) → Each Small es → waits j.hash es ≡ false → gathered (change j f t) es ys ≡ gathered t es ys
-  unfolding gathered waits
-  gathered_still [] t ys a w = refl
-  gathered_still (e ∷ es) t ys a w =
-      rw (at_still e t a.0 (or_left (eqb e.key.hash j.hash) (waits j.hash es) w))
-      (gathered_still es t (placed (row_of (at e.key t) e.candidate) ys) a.1 (or_right (eqb e.key.hash j.hash) (waits j.hash es) w))
-
-  idle_still : (es : List Entry) (t : Table) → Each Small es → waits j.hash es ≡ false → Idle t es → Idle (change j f t) es
+  still : (es : List Entry) (t : Table) → Each Small es → waits j.hash es ≡ false → Each (SameAt t (change j f t)) es
   unfolding waits
-  idle_still [] t a w i = tt
-  idle_still (e ∷ es) t a w i = (
-    rw (at_still e t a.0 (or_left (eqb e.key.hash j.hash) (waits j.hash es) w)) i.0,
-    idle_still es t a.1 (or_right (eqb e.key.hash j.hash) (waits j.hash es) w) i.1,
+  still [] t a w = tt
+  still (e ∷ es) t a w = (
+    at_other e.key j f t keeps (elsewhere j small e.key a.0.small (or_left (eqb e.key.hash j.hash) (waits j.hash es) w)),
+    still es t a.1 (or_right (eqb e.key.hash j.hash) (waits j.hash es) w),
   )
 
   pub mixed_still : {d : ℕ} {t : Table} {es : List Entry} {w : List ℕ} → Mixed t es w d → waits j.hash es ≡ false → Mixed (change j f t) es w d
-  mixed_still {d} {t} {es} {w} a e = record {
-    ready = a.ready;
-    idle = idle_still es t a.ready e a.idle;
-    single = a.single;
-    count = a.count;
-    rows = subst (λ (ys : List Row). Holds row_size row_words space ys w) (sym (gathered_still es t [] a.ready e)) a.rows;
-  }
+  mixed_still {d} {t} {es} {w} a e = mixed_by t (change j f t) (still es t a.ready e) a
 
 -- one goes at another hash than theirs
 module _ (j : Key) (x : ℕ) (small : j.hash < top) where

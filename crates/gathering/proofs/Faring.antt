@@ -7,19 +7,16 @@ use mathlib.Core.List.{List, [], ◌∷◌, ◌++◌}
 use mathlib.Core.Option.{Option, none, some}
 use native.Mathlib.Omega.{arith}
 use lib.Dec.{leb}
-use lib.ListN.{length, length-append}
-use borrow.Author.Tests.{le-leb, lt-leb, leb-false}
+use lib.ListN.{length}
+use borrow.Author.Tests.{le-leb, lt-leb}
 use Rattle.ident.specs.Number.{top, Key}
 use Rattle.regions.specs.declared.Row.{Row}
-use Rattle.regions.specs.Regions.{Holds}
-use Rattle.regions.specs.Rows.{row_size, row_words}
 use Rattle.machine.specs.Limits.{Limits, max_peer_announcements}
-use Rattle.machine.specs.State.{Answer, Candidate, Entry, State, Table, limits_of, owner_is}
+use Rattle.machine.specs.State.{Answer, Candidate, Entry, State, Table, limits_of}
 use Rattle.machine.specs.Table.{at, held, held_by, held_at, is_candidate}
 use Rattle.machine.specs.Announce.{announce_keyed}
 use Rattle.machine.specs.Sound.{Sound}
-use Rattle.machine.specs.Typed.{Each}
-use Rattle.machine.proofs.Tests.{test, or_left, or_true}
+use Rattle.machine.proofs.Tests.{test, or_true}
 use Rattle.store.specs.Flat.{row_of}
 use Rattle.announcing.proofs.Entering.{fresh}
 use Rattle.gathering.specs.declared.beside.Fare.{Fare}

@@ -1,11 +1,12 @@
 -- The region of rows that wait: what its searches find, and what is put in.
 use Prim.Native.Nat.{ℕ, ◌+◌, ◌≤◌, ◌<◌}
 use mathlib.Core.Path.{◌≡◌, sym, ap, subst, ◌∙◌}
-use mathlib.Core.Bool.{Bool, true, false, ◌||◌}
+use mathlib.Core.Bool.{Bool, true, false, not, ◌||◌}
 use mathlib.Core.List.{List, []}
 use native.Mathlib.Omega.{arith}
 use lib.Dec.{ltb}
 use lib.ListN.{length}
+use borrow.Author.Tests.{not-true, not-false}
 use Rattle.ident.specs.Number.{top, place, txid, wtxid}
 use Rattle.words.specs.Words.{recs}
 use Rattle.regions.specs.declared.Key.{Key as RowKey}
@@ -14,10 +15,11 @@ use Rattle.regions.specs.Order.{Bound, Sought}
 use Rattle.regions.specs.Regions.{Holds, Inserted}
 use Rattle.regions.specs.Rows.{row_size, row_words, row_key, key_number, key_of}
 use Rattle.machine.specs.State.{Entry, Table}
+use Rattle.machine.proofs.Tests.{never}
 use Rattle.store.specs.Shown.{row_numbers}
 use Rattle.store.proofs.Searches.{row_sought}
 use Rattle.gathering.specs.Merges.{gathered}
-use Rattle.gathering.specs.Aside.{space, numbered, KeyIn, PutIn, Mixed, WaitsAt}
+use Rattle.gathering.specs.Aside.{space, numbered, KeyIn, PutIn, Mixed, WaitsAt, OpenAt}
 use Rattle.gathering.proofs.ComingIn.{length-gathered}
 use Rattle.gathering.proofs.InOrder.{sorted-gathered, put-placed, numbered_is, waits_is}
 
@@ -52,3 +54,15 @@ module _ {w : List ℕ} {m x h : ℕ} {p : Bool} (l : m ≤ space) (small : h < 
       let N = gathered t es [] in
       let i : numbered (place (txid h)) N ≡ false = ap (λ (z : ℕ). numbered z N) (sym e) ∙ sym (key-waits a x l k) ∙ q in
       key-waits a y l j ∙ ap (λ (z : ℕ). numbered z N) f ∙ sym (ap (λ (b : Bool). b || numbered (place (wtxid h)) N) i) ∙ waits_is h t es small o a.ready
+
+-- ---- whether one more can wait, at a hash of its own
+
+pub open_none : {w : List ℕ} {m h : ℕ} → space ≤ m → OpenAt w m h false
+open_none l = record { spare = λ e. never e; apart = λ e. never e; shut = λ _ g. absurd (omega arith) }
+
+pub open_by : {w : List ℕ} {m h : ℕ} {b : Bool} → m < space → WaitsAt w m h b → OpenAt w m h (not b)
+open_by {w} {m} {h} {b} l x = record {
+  spare = λ _. l;
+  apart = λ e t o es a. sym (not-true b e) ∙ x t o es a;
+  shut = λ e _ t o es a. sym (not-false b e) ∙ x t o es a;
+}

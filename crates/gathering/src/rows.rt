@@ -1,21 +1,22 @@
 // The rows that wait beside the store, as a value: a region of their own, and how many stand at its front. What is announced beside them is counted with them if it
-// waits.
-ghost use Rattle.std.specs.Prelude.{◌≡◌, ◌≤◌, ◌<◌};
-ghost use Rattle.ident.specs.Number.{key_of};
-ghost use Rattle.ident.specs.Words.{item_num};
+// waits. (`open_at` and `set_among` are for rows of several connections, whose caller makes the other tests itself.)
+ghost use Rattle.std.specs.Prelude.{◌+◌, ◌≡◌, ◌≤◌, ◌<◌};
+ghost use Rattle.ident.specs.Number.{key_of, place};
+ghost use Rattle.ident.specs.Words.{hash_num, key_num, item_num};
 ghost use Rattle.words.specs.Words.{words};
 ghost use Rattle.store.specs.Shown.{Kept};
-ghost use Rattle.requests.specs.Changes.{candidate_of};
+ghost use Rattle.requests.specs.Changes.{candidate_of, Spans};
 ghost use Rattle.gathering.specs.declared.beside.Fare.TheVariants.{Waits};
-ghost use Rattle.gathering.specs.Aside.{space, Empty, SetAside};
+ghost use Rattle.gathering.specs.Aside.{space, Empty, OpenAt, Among, SetAside};
 ghost use Rattle.gathering.specs.Deferring.{Deferred};
 ghost use Rattle.gathering.specs.Counted.{then_wait};
 
-use crate::beside::Fare;
+use crate::beside::{Fare, SPACE};
 use crate::region::ROOM;
 use crate::{beside, deferred, region};
 use announcing::foremost::Victims;
-use requests::Candidate;
+use regions::listed::Records;
+use requests::{Candidate, Window};
 
 #[derive(Drop)]
 pub struct Waiting {
@@ -45,6 +46,26 @@ impl Waiting {
             self.count += 1;
         }
         fare
+    }
+
+    // Whether one more can wait, and none of them is at the hash h, under either kind.
+    pub fn open_at(&self, h: ident::Hash) -> bool
+        ensures { OpenAt (words self.now.bytes) self.now.count (hash_num h) result }
+    {
+        if self.count >= SPACE {
+            return false;
+        }
+        !region::waits_at(Records::new(&self.bytes, self.count), h)
+    }
+
+    // c, of whatever connection, waits too: under the key k, whose rows are those of w.
+    pub fn set_among(&mut self, s: &[u8], k: ident::Key, w: Window, c: Candidate)
+        requires { Kept s.now × Spans s.now (place (key_num k)) w.from w.to × (self.old.count < space) }
+        ensures { Among s.now (words self.old.bytes) (words self.new.bytes) self.old.count (key_num k) (candidate_of c) × (self.new.count ≡ self.old.count + 1) }
+    {
+        let m = self.count;
+        region::put_in(&mut self.bytes, m, beside::waiting_row(s, k, w, c));
+        self.count += 1;
     }
 
     // c is announced beside them: `beside::set_aside`.
