@@ -1,26 +1,23 @@
 -- A table without the owners whose time is over: what is counted there, who can be evicted there, and what stands at a hash where no owner's time is over.
 use Prim.Native.Nat.{ℕ, suc, ◌+◌, ◌≤◌, ◌<◌}
-use mathlib.Core.Path.{◌≡◌, refl, sym, ap, subst, ◌∙◌}
+use mathlib.Core.Path.{◌≡◌, refl, sym, ap, ◌∙◌}
 use mathlib.Core.Logic.{inl, inr}
-use mathlib.Core.Bool.{Bool, true, false}
+use mathlib.Core.Bool.{Bool, false}
 use mathlib.Core.List.{List, [], ◌∷◌}
-use mathlib.Core.Option.{Option, none, some}
 use native.Mathlib.Omega.{arith}
-use lib.Dec.{ltb, leb, eqb}
+use lib.Dec.{ltb, eqb}
 use lib.ListN.{length}
-use borrow.Author.Tests.{eqb-true, eqb-false, ltb-true, eq-eqb}
-use Rattle.std.specs.Prelude.{if◌then◌else◌}
+use borrow.Author.Tests.{ltb-true}
 use Rattle.ident.specs.Number.{Key, top, place, txid, wtxid}
-use Rattle.machine.specs.State.{Candidate, Owner, Request, Table, blank}
-use Rattle.machine.specs.Table.{at, keep, change, one, total, count_in, count, any, under, by_under, held, held_by, held_at, is_candidate}
-use Rattle.machine.specs.Sound.{Ordered, All, Filled, Lawful}
-use Rattle.machine.proofs.At.{at_here, at_there}
+use Rattle.machine.specs.State.{Candidate, Request, Table, blank}
+use Rattle.machine.specs.Table.{at, keep, change, total, count_in, count, held_at, is_candidate}
+use Rattle.machine.specs.Sound.{Ordered, All, Filled}
 use Rattle.machine.proofs.Change.{without_fewer}
 use Rattle.machine.proofs.Table.{at_absent}
-use Rattle.machine.proofs.Tests.{test, never}
+use Rattle.machine.proofs.Tests.{test}
 use Rattle.requests.proofs.AtHash.{at-hash, held-at}
 use Rattle.package_stages.specs.Changes.{has_place}
-use Rattle.postponing.specs.Silent.{late, owner_num, gone, dropped_in, dropped_all}
+use Rattle.postponing.specs.Silent.{late, owner_num, dropped_in, dropped_all}
 use Rattle.postponing.specs.Pending.{Unplaced, Plain, Living}
 use Rattle.postponing.proofs.Dropped.{all_keep, ordered_dropped, at_stays}
 

@@ -1,9 +1,9 @@
 -- An owner fails while others are to go and parents wait at other hashes: it is to go too, and the table is the one where it has failed.
-use Prim.Native.Nat.{ℕ, suc, ◌+◌, ◌≤◌, ◌<◌}
+use Prim.Native.Nat.{ℕ, ◌+◌, ◌≤◌, ◌<◌}
 use mathlib.Core.Path.{◌≡◌, refl, sym, ap, subst, ◌∙◌}
 use mathlib.Core.Logic.{inl, inr}
-use mathlib.Core.Bool.{Bool, true, false, ◌&&◌}
-use mathlib.Core.List.{List, [], ◌∷◌, map}
+use mathlib.Core.Bool.{true, false}
+use mathlib.Core.List.{List, [], ◌∷◌}
 use native.Mathlib.Omega.{arith}
 use lib.Dec.{eqb}
 use lib.ListN.{length}
@@ -11,11 +11,10 @@ use borrow.Author.Tests.{eqb-false}
 use Rattle.ident.specs.Number.{Key, top, place, other, txid, wtxid}
 use Rattle.ident.proofs.Places.{place_same as place-inj}
 use Rattle.machine.specs.Limits.{max_announcements, word}
-use Rattle.machine.specs.State.{Candidate, Entry, Request, Table, State, Answer, limits_of, on_table, ready_at, owner_is, enqueued_in}
-use Rattle.machine.specs.Table.{at, change, has, one, any, count_in, count, held}
+use Rattle.machine.specs.State.{Candidate, Entry, Request, Table, State, on_table, owner_is}
+use Rattle.machine.specs.Table.{at, change, has, any, count_in, count, held}
 use Rattle.machine.specs.Announce.{without}
 use Rattle.machine.specs.Fail.{releasable, left, leaves, failed}
-use Rattle.machine.specs.Leave.{alive}
 use Rattle.machine.specs.Sound.{Ordered, All, Filled, Sound, Bounded}
 use Rattle.machine.specs.Typed.{Each}
 use Rattle.machine.proofs.At.{KeepsKey, at_other, other_place}
@@ -32,17 +31,17 @@ use Rattle.gathering.specs.Waits.{pushes, Small, waits}
 use Rattle.gathering.specs.Aside.{Mixed}
 use Rattle.gathering.proofs.Elsewhere.{change-pushes, mixed_still}
 use Rattle.parenting.specs.Waiting.{marks, keys_of}
-use Rattle.parenting.proofs.Marking.{Else, change-marks, entries-else}
+use Rattle.parenting.proofs.Marking.{change-marks, entries-else}
 use Rattle.requests.specs.Changes.{Makes, Tells}
 use Rattle.failing.specs.Changes.{readied}
 use Rattle.failing.proofs.Leaving.{told}
-use Rattle.postponing.specs.Silent.{readied_both, late, dropped_all}
+use Rattle.postponing.specs.Silent.{late, dropped_all}
 use Rattle.postponing.specs.Lapses.{lapses, overdue, lapsed}
 use Rattle.postponing.specs.Pending.{Unplaced, Living, Pending, Pends, OwnsInTime, Cleared, FailsLater, Settles}
 use Rattle.postponing.proofs.Dropped.{at_stays}
 use Rattle.postponing.proofs.DroppedCounts.{count_exact}
 use Rattle.postponing.proofs.Dropping.{calm, here_has, other_has}
-use Rattle.postponing.proofs.LapsedOwner.{owner_waits, bounded_overdue, bounded_half, bounded_lapsed, lapsed_goes}
+use Rattle.postponing.proofs.LapsedOwner.{owner_waits, bounded_lapsed, lapsed_goes}
 use Rattle.postponing.proofs.Starting.{pending_kept, pending_plain, owner_same, owns_base}
 
 -- ---- a request at another hash than those that wait is changed
@@ -106,8 +105,14 @@ lapsed_as_many k n now t s o =
     let t₁ = change k (overdue n) t in
     let o₂ = ordered-change k (readied now) 0 t₁ (λ r. refl) (omega arith) s o₁ in
     let t₂ = change k (readied now) t₁ in
-    omega (arith, count_exact any k (overdue n) 0 t o, count_exact any k (readied now) 0 t₁ o₁, count_exact any (other k) (readied now) 0 t₂ o₂,
-      count-ready (λ m. true) now (at k t₁).candidates, count-ready (λ m. true) now (at (other k) t₂).candidates)
+    omega (
+      arith,
+      count_exact any k (overdue n) 0 t o,
+      count_exact any k (readied now) 0 t₁ o₁,
+      count_exact any (other k) (readied now) 0 t₂ o₂,
+      count-ready (λ m. true) now (at k t₁).candidates,
+      count-ready (λ m. true) now (at (other k) t₂).candidates,
+    )
 
 -- ---- the owner n of the request at k fails
 

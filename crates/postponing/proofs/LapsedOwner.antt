@@ -11,9 +11,8 @@ use lib.ListN.{length}
 use borrow.Author.Tests.{eqb-true, le-leb, leb-true, ltb-true, ltb-false}
 use Rattle.ident.specs.Number.{Key, top, other}
 use Rattle.machine.specs.Limits.{Limits, word}
-use Rattle.machine.specs.State.{Candidate, Owner, Request, Table, blank, with_candidates, unowned, owned_until, ready_at, owner_is}
+use Rattle.machine.specs.State.{Candidate, Owner, Request, Table, with_candidates, unowned, owned_until, ready_at, owner_is}
 use Rattle.machine.specs.Table.{at, change, one, owner_in, has}
-use Rattle.machine.specs.Announce.{without}
 use Rattle.machine.specs.Fail.{releasable, failed}
 use Rattle.machine.specs.Leave.{alive}
 use Rattle.machine.specs.Sound.{Ordered, All, Filled, Bounded}

@@ -1,36 +1,33 @@
 -- Those that failed go, and those that wait come in: the table is the one that the bytes write then.
-use Prim.Native.Nat.{ℕ, ◌+◌, ◌≤◌, ◌<◌}
+use Prim.Native.Nat.{ℕ, ◌+◌, ◌≤◌}
 use mathlib.Core.Path.{◌≡◌, refl, sym, ap, subst, ◌∙◌}
 use mathlib.Core.Bool.{Bool, true, false, ◌||◌}
 use mathlib.Core.List.{List, [], ◌∷◌}
 use mathlib.Core.Option.{Option, none, some}
 use native.Mathlib.Omega.{arith}
 use lib.ListN.{length}
-use Rattle.ident.specs.Number.{Key, top, txid, wtxid}
+use Rattle.ident.specs.Number.{Key, txid, wtxid}
 use Rattle.regions.specs.declared.Row.{Row}
-use Rattle.regions.specs.Regions.{Holds}
-use Rattle.regions.specs.Rows.{row_size, row_words}
-use Rattle.machine.specs.State.{Entry, Package, Request, Table, State, on_table, owner_is, is_some}
+use Rattle.machine.specs.State.{Entry, Package, Request, Table, State, on_table, is_some}
 use Rattle.machine.specs.Table.{at, held}
-use Rattle.machine.specs.Sound.{Ordered, All, Filled, Sound}
+use Rattle.machine.specs.Sound.{All, Filled, Sound}
 use Rattle.machine.specs.Typed.{Each}
 use Rattle.machine.proofs.Tests.{never}
-use Rattle.store.specs.Flat.{row_of, place_for, places_for}
+use Rattle.store.specs.Flat.{place_for, places_for}
 use Rattle.store.specs.Image.{Writes}
-use Rattle.store.specs.Shown.{Kept}
-use Rattle.package_stages.specs.Changes.{has_place}
 use Rattle.requests.specs.Changes.{Makes}
-use Rattle.gathering.specs.Merges.{placed, gathered}
-use Rattle.gathering.specs.Waits.{pushes, Small, Idle}
-use Rattle.gathering.specs.Aside.{space, Empty, Mixed, GathersAll, ComeInAll}
+use Rattle.gathering.specs.Merges.{gathered}
+use Rattle.gathering.specs.Waits.{pushes}
+use Rattle.gathering.specs.Aside.{space, Empty, GathersAll, ComeInAll}
 use Rattle.gathering.proofs.ComingIn.{length-gathered}
+use Rattle.gathering.proofs.Elsewhere.{SameAt, mixed_by}
 use Rattle.parenting.specs.Waiting.{marks, keys_of, row_keys, TxKey, Markable, RowsMarked, Parental}
 use Rattle.parenting.proofs.Marking.{keys-gathered, marks-gathered}
 use Rattle.postponing.specs.Silent.{late, dropped_all, Unburdened}
-use Rattle.postponing.specs.Pending.{Unplaced, Plain, Living, Pending, Pends, Departs, Arrives}
+use Rattle.postponing.specs.Pending.{Unplaced, Living, Pending, Pends, Departs, Arrives}
 use Rattle.postponing.proofs.Dropped.{filled_dropped, dropped_timely, at_stays}
 use Rattle.postponing.proofs.DroppedCounts.{plain_dropped}
-use Rattle.postponing.proofs.Starting.{pending_kept, pending_keys, pending_sound, pending_plain, pending_start, none_sound, none_writes}
+use Rattle.postponing.proofs.Starting.{pending_sound, pending_plain, pending_start}
 
 -- ---- no place
 
@@ -40,37 +37,14 @@ placeless r false (some p) e = never (sym e)
 placeless r false none e = refl
 
 pub unburdened : (now : ℕ) (t : Table) → Unplaced t → Unburdened now t
+unfolding places_for
 unburdened now [] u = tt
 unburdened now (r ∷ t) u = (λ e. placeless r r.info r.«package» u.0, unburdened now t u.1)
-
--- ---- those that wait, where the same stands at their keys
-
-module _ (t u : Table) where
-  abbrev Same : List Entry → Type 0
-  Same es = Each (λ (a : Entry). at a.key u ≡ at a.key t) es
-
-  gathered_same : (es : List Entry) (ys : List Row) → Same es → gathered u es ys ≡ gathered t es ys
-  unfolding gathered
-  gathered_same [] ys a = refl
-  gathered_same (e ∷ es) ys a = ap (λ (r : Request). gathered u es (placed (row_of r e.candidate) ys)) a.0 ∙ gathered_same es (placed (row_of (at e.key t) e.candidate) ys) a.1
-
-  idle_same : (es : List Entry) → Same es → Idle t es → Idle u es
-  idle_same [] a i = tt
-  idle_same (e ∷ es) a i = (ap (λ (r : Request). owner_is e.candidate.connection r.owner) a.0 ∙ i.0, idle_same es a.1 i.1)
-
-  mixed_same : {es : List Entry} {w : List ℕ} {d : ℕ} → Same es → Mixed t es w d → Mixed u es w d
-  mixed_same {es} {w} {d} a m = record {
-    ready = m.ready;
-    idle = idle_same es a m.idle;
-    single = m.single;
-    count = m.count;
-    rows = subst (λ (ys : List Row). Holds row_size row_words space ys w) (sym (gathered_same es [] a)) m.rows;
-  }
 
 -- ---- those that failed go
 
 module _ (t : Table) (f : All Filled t) where
-  keys_stay : (es : List Entry) → Each Parental es → Each (λ (a : Entry). Living t a.key.hash) es → Same t (dropped_all 0 t) es
+  keys_stay : (es : List Entry) → Each Parental es → Each (λ (a : Entry). Living t a.key.hash) es → Each (SameAt t (dropped_all 0 t)) es
   keys_stay [] p l = tt
   keys_stay (e ∷ es) p l = (subst (λ (k : Key). at k (dropped_all 0 t) ≡ at k t) (sym p.0.kind) (at_stays 0 (txid e.key.hash) t f l.0.0), keys_stay es p.1 l.1)
 
@@ -98,7 +72,7 @@ module _ {b b' : List ℕ} {c : ℕ} where
         sound = v.left;
         writes = makes (on_table x st) v.sound v.writes (unburdened 0 x v.unplaced);
         unplaced = p.unplaced;
-        mixed = mixed_same x u (keys_stay x f v.entries v.parental v.living) v.mixed;
+        mixed = mixed_by x u (keys_stay x f v.entries v.parental v.living) v.mixed;
         parental = v.parental;
         living = living_left x f v.entries v.living;
         left = subst (λ (y : Table). Sound (on_table y st)) (sym same) v.left;

@@ -2,9 +2,9 @@
 use Prim.Native.Nat.{ℕ, suc, ◌<◌}
 use mathlib.Core.Path.{◌≡◌, refl, sym, ap, subst, ◌∙◌}
 use mathlib.Core.Logic.{inl, inr}
-use mathlib.Core.Bool.{Bool, true, false, ◌||◌}
-use mathlib.Core.List.{List, [], ◌∷◌, ◌++◌}
-use mathlib.Core.Option.{Option, none, some}
+use mathlib.Core.Bool.{true, false, ◌||◌}
+use mathlib.Core.List.{List, [], ◌∷◌}
+use mathlib.Core.Option.{none}
 use native.Mathlib.Omega.{arith}
 use lib.Dec.{eqb}
 use lib.ListN.{length, length-append}
@@ -12,13 +12,13 @@ use borrow.Author.Tests.{eqb-true, eqb-false}
 use Rattle.ident.specs.Number.{Key, top, place}
 use Rattle.regions.specs.Regions.{Holds}
 use Rattle.regions.specs.Rows.{row_size, row_words}
-use Rattle.machine.specs.State.{Candidate, Entry, Owner, Request, Table, State, on_table, blank, owner_is, is_some}
+use Rattle.machine.specs.State.{Candidate, Entry, Request, Table, State, on_table, blank, owner_is, is_some}
 use Rattle.machine.specs.Table.{at}
 use Rattle.machine.specs.Announce.{push}
 use Rattle.machine.specs.Sound.{Ordered, All, Sound}
 use Rattle.machine.specs.Typed.{Each}
-use Rattle.machine.proofs.Alone.{Hold, Alone, hold_of, alone_same, alone_then, alone-change, alone-mark}
-use Rattle.machine.proofs.At.{at_here, at_there, at_other}
+use Rattle.machine.proofs.Alone.{Hold, Alone, alone_same, alone_then, alone-change, alone-mark}
+use Rattle.machine.proofs.At.{at_here, at_there}
 use Rattle.machine.proofs.Table.{all_at, at_absent, ordered-change}
 use Rattle.machine.proofs.Tests.{test, never}
 use Rattle.store.specs.Image.{Writes}
@@ -35,8 +35,7 @@ use Rattle.gathering.proofs.OneMore.{nobody_mixed}
 use Rattle.parenting.specs.Waiting.{marks, keys_of, TxKey}
 use Rattle.parenting.proofs.Marking.{sound-marks, entries-keys}
 use Rattle.postponing.specs.Silent.{late, dropped_all}
-use Rattle.postponing.specs.Lapses.{Timely}
-use Rattle.postponing.specs.Pending.{Unplaced, Plain, Pending, OwnsInTime}
+use Rattle.postponing.specs.Pending.{Plain, Pending, OwnsInTime}
 use Rattle.postponing.proofs.Dropped.{dropped_timely, at_stays, at_goes}
 use Rattle.postponing.proofs.DroppedCounts.{plain_dropped}
 

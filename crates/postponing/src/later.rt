@@ -23,7 +23,14 @@ fn clear_hash(s: &mut [u8], new: &mut Waiting, c: usize, h: ident::Hash) -> usiz
 }
 
 // The owner n of the request at k fails, beside the c that have failed and are to go with it. Answers how many are to go then.
-pub fn fail_later(s: &mut [u8], new: &mut Waiting, c: usize, k: ident::Key, n: u64, clock: u64) -> usize
+pub fn fail_later(
+    s: &mut [u8],
+    new: &mut Waiting,
+    c: usize,
+    k: ident::Key,
+    n: u64,
+    clock: u64,
+) -> usize
     requires { Pends s.old (words new.old.bytes) new.old.count c × Tells s.old (OwnsInTime n (key_num k)) }
     ensures { FailsLater s.old s.new (words new.old.bytes) (words new.new.bytes) new.old.count new.new.count c result (key_num k) n clock }
 {
