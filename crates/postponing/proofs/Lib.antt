@@ -9,3 +9,4 @@ pub mod Settled
 pub mod LapsedOwner
 pub mod LapsedSteps
 pub mod LapsedRows
+pub mod Opening

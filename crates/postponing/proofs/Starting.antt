@@ -41,7 +41,7 @@ use Rattle.postponing.proofs.DroppedCounts.{plain_dropped}
 
 -- ---- what holds at every key holds of each request
 
-each_at : (P : Request → Type 0) (lo : ℕ) (t : Table) → Ordered lo t → ((k : Key) → P (blank k)) → ((k : Key) → k.hash < top → P (at k t)) → All P t
+pub each_at : (P : Request → Type 0) (lo : ℕ) (t : Table) → Ordered lo t → ((k : Key) → P (blank k)) → ((k : Key) → k.hash < top → P (at k t)) → All P t
 each_at P lo [] o b f = tt
 each_at P lo (r ∷ t) o b f = (
   subst P (at_here r.key r t refl) (f r.key o.1),

@@ -2,7 +2,7 @@
 use Rattle.std.specs.Prelude.{ℕ, ◌+◌, ◌≤◌, ◌≡◌, Bool, true, false, List}
 use Rattle.ident.specs.Number.{Key, txid, wtxid}
 use Rattle.machine.specs.State.{Entry, Table, State, limits_of, on_table, owner_is}
-use Rattle.machine.specs.Table.{at, held}
+use Rattle.machine.specs.Table.{at, held, is_candidate}
 use Rattle.machine.specs.Fail.{failed}
 use Rattle.machine.specs.Sound.{Ordered, All, Sound}
 use Rattle.machine.specs.Typed.{Each}
@@ -48,6 +48,12 @@ pub record Pending (b w : List ℕ) (d c : ℕ) (st : State) (t : Table) : Type 
   pub room : held (dropped_all 0 base) + d ≤ st.limit
   pub together : Sound (on_table (pushes entries (dropped_all 0 base)) st)
   pub table : t ≡ marks (keys_of entries) (pushes entries (dropped_all 0 base))
+
+-- at the hash h nobody waits, no owner is to go, and the connection n has announced it under neither kind
+pub record OpenTo (n h : ℕ) {b w : List ℕ} {d c : ℕ} {st : State} {t : Table} (v : Pending b w d c st t) : Type 0 where
+  pub new : is_candidate n h v.base ≡ false
+  pub living : Living v.base h
+  pub apart : waits h v.entries ≡ false
 
 -- some state and table
 pub record Pends (b w : List ℕ) (d c : ℕ) : Type 0 where
