@@ -21,12 +21,12 @@ use Rattle.package_stages.specs.Changes.{has_place}
 use Rattle.parenting.specs.Displacing.{Spent}
 use Rattle.parenting.proofs.SpentStill.{spent-failed}
 use Rattle.apart.specs.Bare.{bare}
-use Rattle.apart.specs.Silent.{fail_each, ready_each, due_by}
+use Rattle.postponing.specs.Silent.{fail_each, ready_each, due_by}
 use Rattle.apart.proofs.BareTable.{at_bare, bounded-bare}
 use Rattle.apart.proofs.BareChange.{failed-bare}
 use Rattle.apart.proofs.BareExpiry.{no-parents, places_unheld}
-use Rattle.apart.proofs.DroppedTables.{dropped_by}
-use Rattle.apart.proofs.Dropping.{Keyed, Rising, Owned, Free, calm, still_owned, still_free, by-rising, by-keyed, by-owned, failed_by}
+use Rattle.postponing.proofs.DroppedTables.{dropped_by}
+use Rattle.postponing.proofs.Dropping.{Keyed, Rising, Owned, Free, calm, still_owned, still_free, by-rising, by-keyed, by-owned, failed_by}
 
 -- the owners ds have failed
 pub record Went (m : Limits) (Q now : ℕ) (t : Table) (ds : List Due) : Type 0 where

@@ -12,9 +12,6 @@ pub mod Notes
 pub mod InHalves
 pub mod Overdue
 pub mod OneOwner
-pub mod DroppedTables
-pub mod Windowed
-pub mod Dropping
 pub mod InTurn
 pub mod Silence
 pub mod Forgetting

@@ -50,7 +50,8 @@ use Rattle.apart.proofs.BareTable.{victims-bare, sound-bare}
 use Rattle.apart.proofs.BareChange.{failed-bare}
 use Rattle.apart.proofs.BarePlaces.{no_place, txid-free}
 use Rattle.apart.proofs.BareExpiry.{no-parents, bounded-after, places_unheld}
-use Rattle.apart.proofs.Overdue.{front_is, rest_stays, slots_rest, none_packaged, filter_from}
+use Rattle.postponing.proofs.Dropping.{none_packaged}
+use Rattle.apart.proofs.Overdue.{front_is, rest_stays, slots_rest, filter_from}
 
 -- ---- what the functions ask for
 

@@ -2,7 +2,7 @@
 use Prim.Native.Nat.{ℕ, zero, suc, ◌+◌, ◌-◌, ◌≤◌, ◌<◌}
 use mathlib.Core.Path.{◌≡◌, refl, sym, ap, subst, ◌∙◌}
 use mathlib.Core.Logic.{inl, inr}
-use mathlib.Core.Bool.{Bool, true, false, ◌||◌}
+use mathlib.Core.Bool.{Bool, true, false}
 use mathlib.Core.List.{List, [], ◌∷◌, ◌++◌}
 use mathlib.Core.Option.{Option, none, some}
 use native.Mathlib.Omega.{arith}
@@ -17,7 +17,7 @@ use Rattle.words.specs.Words.{words}
 use Rattle.regions.specs.Regions.{Holds}
 use Rattle.places.specs.Places.{Place, list_most, place_size, blank, with_stage}
 use Rattle.machine.specs.Limits.{word}
-use Rattle.machine.specs.State.{Package, Table, State, Answer, limits_of, on_table, owner_is, enqueued_in, is_some}
+use Rattle.machine.specs.State.{Package, Table, State, Answer, limits_of, on_table, owner_is, enqueued_in}
 use Rattle.machine.specs.Table.{at, one}
 use Rattle.machine.specs.Announce.{victims, anywhere}
 use Rattle.machine.specs.Fail.{Listed, failed, dedup, parents_from, announce_parents, parents_for}
@@ -26,7 +26,7 @@ use Rattle.machine.specs.Typed.{Each}
 use Rattle.machine.proofs.Fail.{bounded-failed}
 use Rattle.machine.proofs.Kept.{sound-table}
 use Rattle.machine.proofs.Table.{lawful_at}
-use Rattle.machine.proofs.Tests.{test, never}
+use Rattle.machine.proofs.Tests.{test}
 use Rattle.store.specs.Flat.{places_of}
 use Rattle.store.specs.FlatSound.{PlacesAscend}
 use Rattle.store.specs.Image.{Writes}
@@ -156,11 +156,6 @@ stage-enqueued i (some p) = go p.enqueued
     go false = refl
 stage-enqueued true none = refl
 stage-enqueued false none = refl
-
-pub none_packaged : (i : Bool) (q : Option Package) → (i || is_some q) ≡ false → enqueued_in q ≡ false
-none_packaged true q e = never (sym e)
-none_packaged false (some p) e = never (sym e)
-none_packaged false none e = refl
 
 wtxid-key : (k : Key) (h : ℕ) → k.kind ≡ Wtxid → h ≡ k.hash → wtxid h ≡ k
 wtxid-key k h e z = (λ i. record { kind = sym e i; hash = z i })

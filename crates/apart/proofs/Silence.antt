@@ -1,14 +1,13 @@
 -- A run of owners without a place whose time is over: their rows taken out of the front of the store, in one pass, are all that they leave.
 use Prim.Native.Nat.{ℕ, ◌<◌}
 use mathlib.Core.Path.{◌≡◌, refl, sym, subst, ◌∙◌}
-use mathlib.Core.Bool.{Bool, true, false}
+use mathlib.Core.Bool.{Bool}
 use mathlib.Core.List.{List, [], ◌∷◌}
-use mathlib.Core.Option.{Option, none, some}
 use native.Mathlib.Omega.{arith}
 use lib.ListN.{length, take, drop}
 use Rattle.ident.specs.Number.{Key, other}
 use Rattle.machine.specs.Limits.{word}
-use Rattle.machine.specs.State.{Package, Request, Table, State, limits_of, on_table}
+use Rattle.machine.specs.State.{Request, Table, State, limits_of, on_table}
 use Rattle.machine.specs.State as machine
 use Rattle.machine.specs.Table.{at, change}
 use Rattle.machine.specs.Plan.{Due}
@@ -16,17 +15,18 @@ use Rattle.machine.specs.Sound.{Ordered, All}
 use Rattle.machine.specs.Typed.{Each}
 use Rattle.machine.proofs.Kept.{sound-table}
 use Rattle.machine.proofs.Table.{all_at, all_change, ordered-change}
-use Rattle.store.specs.Flat.{place_for, places_for}
+use Rattle.store.specs.Flat.{places_for}
 use Rattle.store.specs.Image.{Writes}
-use Rattle.handing.specs.Hands.{readied}
+use Rattle.failing.specs.Changes.{readied}
 use Rattle.apart.specs.Bare.{bare, bare_state}
 use Rattle.apart.specs.Apart.{Slot, plain, SpotNone, Apart}
-use Rattle.apart.specs.Silent.{readied_both, ready_each, fail_each, due_by}
+use Rattle.postponing.specs.Silent.{readied_both, ready_each, fail_each, due_by}
 use Rattle.apart.proofs.BareTable.{ordered-bare}
 use Rattle.apart.proofs.Overdue.{slots_rest}
 use Rattle.apart.proofs.OneOwner.{free}
-use Rattle.apart.proofs.DroppedTables.{dropped_by, UnburdenedBy}
-use Rattle.apart.proofs.Dropping.{Keyed, Owned, Free, ordered_both, by-keyed, by-owned}
+use Rattle.postponing.proofs.DroppedTables.{dropped_by, UnburdenedBy}
+use Rattle.postponing.proofs.Dropping.{Keyed, Owned, Free, ordered_both, by-keyed, by-owned}
+use Rattle.postponing.proofs.DroppedTables.{ready_none}
 use Rattle.apart.proofs.InTurn.{Went, went_by, bare_in-one}
 
 -- no request has a place
@@ -38,15 +38,6 @@ unfolding places_for
 blank_none j = refl
 
 -- ---- candidates made ready keep it so
-
-ready-place : (now : ℕ) (r : Request) (i : Bool) (p : Option Package) → place_for (readied now r) i p ≡ place_for r i p
-ready-place now r i (some p) = refl
-ready-place now r true none = refl
-ready-place now r false none = refl
-
-pub ready_none : (now : ℕ) (r : Request) → places_for r ≡ [] → places_for (readied now r) ≡ []
-unfolding places_for
-ready_none now r e = ready-place now r r.info r.«package» ∙ e
 
 placeless_ready : (now : ℕ) (k : Key) (t : Table) → Ordered 0 t → Placeless t → Placeless (change k (readied now) t)
 placeless_ready now k t o a =

@@ -2,4 +2,3 @@ pub mod Bare
 pub mod Apart
 pub mod Noting
 pub mod Lapsing
-pub mod Silent

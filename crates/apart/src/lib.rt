@@ -15,7 +15,6 @@ use store::layout;
 pub mod lapsing;
 pub mod noting;
 pub mod parents;
-pub mod silent;
 pub mod slots;
 
 // Bytes of a place.

@@ -26,7 +26,7 @@ keep_none r [] t e = refl
 keep_none r (c ∷ cs) t e = absurd (omega (arith, ap length e))
 
 -- before the first key
-change-before : (k : Key) (g : Request → Request) (lo : ℕ) (t : Table) → GivesNone g → place k < lo → Ordered lo t → change k g t ≡ t
+pub change-before : (k : Key) (g : Request → Request) (lo : ℕ) (t : Table) → GivesNone g → place k < lo → Ordered lo t → change k g t ≡ t
 unfolding change
 change-before k g lo [] z h o = keep_none (g (blank k)) (g (blank k)).candidates [] (z (blank k) refl)
 change-before k g lo (r ∷ t) z h o = rw (lt-ltb (place k) (place r.key) (omega (arith, o.0))) (keep_none (g (blank k)) (g (blank k)).candidates (r ∷ t) (z (blank k) refl))

@@ -27,6 +27,7 @@ use Rattle.store.specs.Shown.{Kept}
 use Rattle.store.proofs.FlatRead.{image_injective}
 use Rattle.requests.specs.Changes.{Makes, Tells}
 use Rattle.announcing.specs.Answers.{Answered}
+use Rattle.failing.specs.Changes.{readied}
 use Rattle.failing.proofs.Fusing.{change_fuse, change_same, change_none}
 
 -- what holds of one sound state that bytes write holds of all
@@ -35,10 +36,6 @@ unfolding image
 told P st s w p u v x = subst (λ (z : State). P z.table) (image_injective st u s v (sym w.words_are ∙ x.words_are)) p
 
 -- ---- one request
-
--- every candidate is ready at v
-abbrev pub readied : ℕ → Request → Request
-readied v r = with_candidates (map (ready_at v) r.candidates) r
 
 pub without-ready : (n now : ℕ) (cs : List Candidate) → without n (map (ready_at now) cs) ≡ map (ready_at now) (without n cs)
 unfolding without

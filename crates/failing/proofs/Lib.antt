@@ -7,3 +7,4 @@ pub mod PackageInfo
 pub mod Copying
 pub mod Handing
 pub mod Enqueued
+pub mod Readied

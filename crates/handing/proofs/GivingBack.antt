@@ -3,7 +3,7 @@ use Prim.Native.Nat.{ℕ, ◌<◌}
 use mathlib.Core.Path.{◌≡◌, refl, sym, ap, ◌∙◌}
 use mathlib.Core.Logic.{inl, inr}
 use mathlib.Core.Bool.{true, false, or-false}
-use mathlib.Core.List.{List, [], ◌∷◌, map}
+use mathlib.Core.List.{List, [], ◌∷◌}
 use mathlib.Core.Option.{Option, none, some}
 use native.Mathlib.Omega.{arith}
 use lib.Dec.{eqb}
@@ -12,7 +12,7 @@ use borrow.Author.Tests.{eqb-true, eq-eqb}
 use Rattle.ident.specs.Number.{top, Key, other}
 use Rattle.words.specs.Words.{recs}
 use Rattle.machine.specs.Limits.{Limits, word}
-use Rattle.machine.specs.State.{Candidate, Owner, Request, Table, State, on_table, unowned, ready_at, owner_is}
+use Rattle.machine.specs.State.{Candidate, Owner, Request, Table, State, on_table, unowned, owner_is}
 use Rattle.machine.specs.Table.{at, change, has}
 use Rattle.machine.specs.Announce.{without}
 use Rattle.machine.specs.Fail.{releasable, left, unclaim}
@@ -20,39 +20,18 @@ use Rattle.machine.specs.Sound.{OwnerFits, Sound, Bounded}
 use Rattle.machine.proofs.Tests.{never, and_left}
 use Rattle.machine.proofs.Table.{lawful_at}
 use Rattle.machine.proofs.At.{at_other, other_place}
-use Rattle.machine.proofs.Change.{Shrinks, bounded-change}
-use Rattle.machine.proofs.Fail.{shrinks_left, has-map as has-ready, count_in-map as count-ready, fit-map as fit-ready, shrinks_unowned}
+use Rattle.machine.proofs.Change.{bounded-change}
+use Rattle.machine.proofs.Fail.{shrinks_left, shrinks_unowned}
 use Rattle.machine.proofs.Kept.{sound-table}
 use Rattle.store.specs.Image.{Writes}
 use Rattle.store.specs.Shown.{Kept}
 use Rattle.requests.specs.Changes.{Makes, Tells}
 use Rattle.lent_lists.specs.Lists.{hashes_in}
 use Rattle.failing.proofs.Leaving.{told, owner_of_lem, free_other}
-use Rattle.handing.specs.Hands.{readied, eased}
+use Rattle.failing.specs.Changes.{readied}
+use Rattle.failing.proofs.Readied.{shrinks_ready}
+use Rattle.handing.specs.Hands.{eased}
 use Rattle.handing.specs.Hands.{Silent, KeyWaits}
-
--- ---- a ready time more
-
-owner-ready : (now : ℕ) (o : Option Owner) (cs : List Candidate) → OwnerFits o cs → OwnerFits o (map (ready_at now) cs)
-owner-ready now none cs h = tt
-owner-ready now (some o) cs h = (has-ready o.connection now cs ∙ h.0, h.1)
-
-pub shrinks_ready : (now : ℕ) → now < word → Shrinks (readied now)
-shrinks_ready now w = record {
-  key = λ r. refl;
-  at_each = λ r. record {
-    fewer = λ p. omega (arith, count-ready p now r.candidates);
-    less = λ p. omega arith;
-    place = omega arith;
-    lawful = λ h. record {
-      candidates = fit-ready now r.key r.candidates w h.candidates;
-      owner = owner-ready now r.owner r.candidates h.owner;
-      packed = h.packed;
-      parents = h.parents;
-      mark = h.mark;
-    };
-  };
-}
 
 pub bounded-eased : {m : Limits} {Q : ℕ} {t : Table} (n now : ℕ) (k : Key) → k.hash < top → now < word → Bounded m Q t → Bounded m Q (eased n now k t)
 bounded-eased n now k s w b = bounded-change (other k) (left n now) s (shrinks_left n now w) (bounded-change k (readied now) s (shrinks_ready now w) (bounded-change k unowned s shrinks_unowned b))

@@ -2,7 +2,7 @@
 use Rattle.std.specs.Prelude.{ℕ, ◌≤◌, ◌<◌, ◌≡◌, ◌⊎◌, Bool, true, false, List, [], ◌∷◌, ◌++◌, map}
 use Rattle.ident.specs.Number.{Key, other}
 use Rattle.machine.specs.Limits.{Limits, word}
-use Rattle.machine.specs.State.{Candidate, Request, State, Table, limits_of, on_table, with_candidates, unowned, ready_at, owner_is}
+use Rattle.machine.specs.State.{Candidate, Request, State, Table, limits_of, on_table, unowned, owner_is}
 use Rattle.machine.specs.Table.{at, change}
 use Rattle.machine.specs.Announce.{without}
 use Rattle.machine.specs.Sound.{Sound}
@@ -10,6 +10,7 @@ use Rattle.machine.specs.Fail.{Listed, nothing, left, announce_parents, parents_
 use Rattle.machine.specs.Typed.{Each}
 use Rattle.store.specs.Image.{Writes}
 use Rattle.requests.specs.Changes.{Tells}
+use Rattle.failing.specs.Changes.{readied}
 use Rattle.merging.specs.Merges.{Takes, Merged}
 
 abbrev pub conns_of : List Candidate → List ℕ
@@ -37,10 +38,6 @@ pub record KeysMerged (b b' u u' : List ℕ) (n r : ℕ) (f : Limits → Table �
   pub table : (st : State) → Sound st → Writes b st → Writes b' (on_table (f (limits_of st) st.table).table st)
 
 -- ---- an owner without parents to hand on
-
--- every candidate gets the ready time
-abbrev pub readied : ℕ → Request → Request
-readied now r = with_candidates (map (ready_at now) r.candidates) r
 
 -- it gives its request back in place, the others get the ready time, and it waits to be cut with the rest
 abbrev pub eased : ℕ → ℕ → Key → Table → Table

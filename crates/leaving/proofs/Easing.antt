@@ -25,7 +25,8 @@ use Rattle.machine.proofs.Loosened.{left_key}
 use Rattle.machine.proofs.Leaving.{count-has as in-has}
 use Rattle.merging.specs.Merges.{Rising}
 use Rattle.cutting.specs.Cuts.{cut_at, cut_each}
-use Rattle.handing.specs.Hands.{readied, eased}
+use Rattle.failing.specs.Changes.{readied}
+use Rattle.handing.specs.Hands.{eased}
 use Rattle.leaving.specs.Parts.{listed, Unowned, Within}
 use Rattle.handing.specs.Hands.{Silent}
 use Rattle.leaving.proofs.Segments.{ordered-cut, filled-cut, ordered_each, filled_each, drop_part}

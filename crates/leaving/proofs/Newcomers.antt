@@ -27,7 +27,8 @@ use Rattle.machine.proofs.Announce.{Victim, victims_all, greatest_of}
 use Rattle.machine.proofs.Fail.{Peer, FewHashes, parents-dedup, bounded-parent_at, bounded-mark, bounded-parents, bounded-failed, few_for, has-map as has-ready, has-adopt}
 use Rattle.machine.proofs.At.{KeepsKey, kept, at_other}
 use Rattle.machine.proofs.Alone.{at_either}
-use Rattle.handing.specs.Hands.{readied, eased}
+use Rattle.failing.specs.Changes.{readied}
+use Rattle.handing.specs.Hands.{eased}
 
 -- from the place lo on, n is a candidate under no key where it was none
 pub record Fewer (n lo : ℕ) (t t' : Table) : Type 0 where

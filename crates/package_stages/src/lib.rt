@@ -129,7 +129,7 @@ impl Request {
 }
 
 // Whom the rows of a window name as owner.
-fn owner_in(s: &[u8], w: Window) -> Option<Owner>
+pub fn owner_in(s: &[u8], w: Window) -> Option<Owner>
     requires { Shown s.now × (w.to ≤ rows_in s.now) }
     ensures { OwnerAmong s.now w.from w.to result }
 {

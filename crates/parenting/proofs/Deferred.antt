@@ -35,7 +35,7 @@ use Rattle.gathering.proofs.Waiting.{barred-beside, candidate-beside, held_besid
 use Rattle.parenting.specs.Waiting.{marks, keys_of, TxKey, Parental}
 use Rattle.parenting.specs.Displacing.{Owes, Unknown}
 use Rattle.parenting.proofs.Marking.{count-marks, change-marks, sound-marks, marks_more, entries-keys, entries-else, entries-preferred}
-use Rattle.parenting.proofs.Waiting.{keys_more}
+use Rattle.parenting.proofs.Admitted.{keys_more}
 use Rattle.parenting.proofs.Spent.{victims-marks, refused-marked}
 
 module _ {n : ℕ} {b w v : List ℕ} {d m : ℕ} {st : State} {t : Table} (x : Owes n b w v d m st t) where

@@ -1,5 +1,6 @@
 pub mod Starting
 pub mod Marking
+pub mod Admitted
 pub mod Waiting
 pub mod Spent
 pub mod SpentStill

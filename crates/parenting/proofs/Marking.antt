@@ -18,7 +18,7 @@ use Rattle.machine.specs.Sound.{Ordered, All, Filled, Sound}
 use Rattle.machine.specs.Typed.{Each}
 use Rattle.machine.proofs.Announce.{each_append as each_both}
 use Rattle.machine.proofs.Tests.{test, or_left, or_right}
-use Rattle.machine.proofs.At.{KeepsKey}
+use Rattle.machine.proofs.At.{KeepsKey, at_other}
 use Rattle.machine.proofs.Table.{at_key, ordered-change, filled-change}
 use Rattle.machine.proofs.Fail.{bounded-mark}
 use Rattle.machine.proofs.Kept.{sound-table}
@@ -71,6 +71,12 @@ sound-marks st (k ∷ ks) t a s = sound-marks st ks (mark k t) a.1 (sound-mark s
 pub record Else (h : ℕ) (k : Key) : Type 0 where
   pub small : k.hash < top
   pub other : k.hash ≡ h → ⊥
+
+pub at_marks : (j : Key) (ks : List Key) (t : Table) → j.hash < top → Each (Else j.hash) ks → at j (marks ks t) ≡ at j t
+unfolding marks
+at_marks j [] t s a = refl
+at_marks j (k ∷ ks) t s a =
+    at_marks j ks (mark k t) s a.1 ∙ at_other j k marked t (λ r. refl) (λ e. a.0.other (sym (ap (λ (i : Key). i.hash) (place-inj j k s a.0.small e))))
 
 module _ (j : Key) (f : Request → Request) (g : KeepsKey f) (s : j.hash < top) where
   pub change-marks : (ks : List Key) (t : Table) → Each (Else j.hash) ks → Ordered 0 t → All Filled t → change j f (marks ks t) ≡ marks ks (change j f t)

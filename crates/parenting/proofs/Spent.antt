@@ -117,7 +117,7 @@ spent-adopted same k c (r ∷ t) s =
 
 -- ---- one parent
 
-evicting_none : (k : Key) (c : Candidate) (t : Table) (l : List Entry) → l ≡ [] → evicting (greatest l) k c t ≡ refused t
+pub evicting_none : (k : Key) (c : Candidate) (t : Table) (l : List Entry) → l ≡ [] → evicting (greatest l) k c t ≡ refused t
 unfolding greatest evicting
 evicting_none k c t l e = rw e
 

@@ -1,8 +1,8 @@
 -- Parents that wait beside the store: one more waits, they come in, one is announced where none waits.
 use Prim.Native.Nat.{ℕ, suc, ◌+◌, ◌<◌}
 use mathlib.Core.Path.{◌≡◌, refl, sym, ap, subst, ◌∙◌}
-use mathlib.Core.Bool.{Bool, true, false, ◌||◌}
-use mathlib.Core.List.{List, [], ◌∷◌, ◌++◌, map-append}
+use mathlib.Core.Bool.{Bool, true, false}
+use mathlib.Core.List.{List, [], ◌∷◌, ◌++◌}
 use mathlib.Core.Option.{some}
 use native.Mathlib.Omega.{arith}
 use lib.ListN.{length, drop, get_or, drop_of_length-le}
@@ -10,7 +10,7 @@ use lib.Seq.{drop-cons}
 use denote.Laws.{Is}
 use denote.Struct.Laws as LL
 use Rattle.ident.specs.Words.{hash_num}
-use Rattle.ident.specs.Number.{top, Key, txid, wtxid, key_of}
+use Rattle.ident.specs.Number.{top, Key, txid, key_of}
 use Rattle.regions.specs.declared.Row.{Row}
 use Rattle.regions.specs.Regions.{Holds, Found}
 use Rattle.regions.specs.Rows.{row_size, row_words, read_row}
@@ -19,17 +19,15 @@ use Rattle.machine.specs.State.{Candidate, Entry, Table, State, Answer, limits_o
 use Rattle.machine.specs.Table.{one, at, has, count}
 use Rattle.machine.specs.Announce.{push, announce_keyed, request_parent_at}
 use Rattle.machine.specs.Fail.{parent_of, mark}
-use Rattle.machine.specs.Sound.{Fits, Sound, Bounded}
+use Rattle.machine.specs.Sound.{Sound, Bounded}
 use Rattle.machine.specs.Typed.{Each}
-use Rattle.machine.proofs.Announce.{bounded-announce_at}
 use Rattle.machine.proofs.Fail.{Peer, bounded-parent_at, bounded-mark}
 use Rattle.machine.proofs.Kept.{sound-table}
-use Rattle.machine.proofs.Tests.{by_test, never, or_left, or_right}
+use Rattle.machine.proofs.Tests.{by_test, never}
 use Rattle.store.specs.Gather.{key_at}
 use Rattle.store.specs.Image.{Writes}
 use Rattle.store.specs.Shown.{Kept}
 use Rattle.requests.specs.Changes.{Makes}
-use Rattle.requests.proofs.Holding.{either-kind}
 use Rattle.announcing.specs.Answers.{Answered, one_parent}
 use Rattle.gathering.specs.declared.beside.Fare.{Fare}
 use Rattle.gathering.specs.declared.beside.Fare.TheVariants.{Nothing, Waits as Waiting, Alone}
@@ -41,14 +39,14 @@ use Rattle.gathering.specs.Aside.{space, Empty, Aside, Joined, Enters, SetAside,
 use Rattle.gathering.proofs.ComingIn.{length-gathered}
 use Rattle.gathering.proofs.OneMore.{each_more}
 use Rattle.gathering.proofs.Faring.{set-same}
-use Rattle.gathering.proofs.Waiting.{pushes_more, admits_new, admits_done}
 use Rattle.announcing.proofs.Lent.{hash_low}
 use Rattle.parenting.specs.declared.parent.Parent.{Parent}
 use Rattle.parenting.specs.contracts.parent.Parent as P
 use Rattle.parenting.proofs.parent.Parent.TheLaws as P'
 use Rattle.parenting.specs.Waiting.{marks, keys_of, row_keys, TxKey, Markable, RowsMarked, Parental, Beside, Waits, LetIn, NextAt, WaitsWith, NextIn}
+use Rattle.parenting.proofs.Admitted.{admitted_more, admitted_sound}
 use Rattle.parenting.proofs.Starting.{beside_none, none_sound, none_writes, none_empty}
-use Rattle.parenting.proofs.Marking.{count-marks, sound-marks, push-marks, marks_more, entries-keys, entries-else, keys-gathered, marks-gathered}
+use Rattle.parenting.proofs.Marking.{sound-marks, entries-keys, keys-gathered, marks-gathered}
 
 -- ---- a parent that is given
 
@@ -114,9 +112,6 @@ waits_same {b} {w} {w₁} {n} {d} e k = subst (λ (y : List ℕ). Waits n b y d)
 
 -- ---- one more waits
 
-pub keys_more : (es : List Entry) (a : Entry) → keys_of (es ++ (a ∷ [])) ≡ keys_of es ++ (a.key ∷ [])
-keys_more es a = map-append (λ (x : Entry). x.key) es (a ∷ [])
-
 module _ {n now h i : ℕ} {b w : List ℕ} {d : ℕ} {st : State} {t : Table} (v : Beside n b w d st t) (p : Peer n) (late : now < word) (short : i < word) (low : h < top) {w' : List ℕ}
     (a : SetAside b w w' d (some (txid h)) (parent_of n now h i) Waiting) where
   abbrev m : Limits
@@ -131,50 +126,17 @@ module _ {n now h i : ℕ} {b w : List ℕ} {d : ℕ} {st : State} {t : Table} (
   abbrev new : Entry
   new = record { key = txid h; candidate = c }
 
-  -- the table with those before it
-  abbrev u : Table
-  u = marks (keys_of es) (pushes es v.base)
-
   joined : Joined m v.base es w' (d + 1) (some (txid h)) c
   joined = (a.waits refl).joined (on_table v.base st) v.sound v.writes es v.aside
 
   enters : Enters m v.base es (txid h) c joined.entries
   enters = joined.enters (omega (arith, v.aside.mixed.count)) (txid h) refl
 
-  same : (q : Key → ℕ → Bool) → count q u ≡ count q (pushes es v.base)
-  same q = count-marks q (keys_of es) (pushes es v.base)
-
-  asked : request_parent_at m (txid h) c u ≡ done (push (txid h) c u)
-  unfolding request_parent_at
-  asked =
-      let o = v.sound.bounded.ordered in
-      let fresh = admits_new enters.admits v.aside.mixed.ready o u same in
-      let x = has n (at (txid h) u).candidates in
-      let y = has n (at (wtxid h) u).candidates in
-      let k = sound-marks st (keys_of es) (pushes es v.base) (keys v) v.together in
-      let neither : (x || y) ≡ false = either-kind n h low u k.bounded.ordered ∙ fresh in
-      rw (or_left x y neither, or_right x y neither) (admits_done enters.admits v.aside.mixed.ready o u same)
-
   -- the table with it
-  next_table : mark (txid h) (push (txid h) c u) ≡ marks (keys_of (es ++ (new ∷ []))) (pushes (es ++ (new ∷ [])) v.base)
-  next_table =
-      let g = v.together.bounded in
-      let ks = keys_of es in
-      ap (mark (txid h)) (push-marks (txid h) c ks (pushes es v.base) low (entries-else h es v.aside.mixed.ready enters.admits.apart) g.ordered g.filled)
-      ∙ sym (marks_more ks (txid h) (push (txid h) c (pushes es v.base)))
-      ∙ ap (marks (ks ++ (txid h ∷ []))) (sym (pushes_more es new v.base))
-      ∙ ap (λ (l : List Key). marks l (pushes (es ++ (new ∷ [])) v.base)) (sym (keys_more es new))
+  abbrev with_them : Table
+  with_them = marks (keys_of (es ++ (new ∷ []))) (pushes (es ++ (new ∷ [])) v.base)
 
-  fits : Fits (txid h) c
-  fits = record { item = refl; positive = p.positive; connection = p.small; ready = late; priority = short }
-
-  all_there : Sound (on_table (pushes (es ++ (new ∷ [])) v.base) st)
-  unfolding announce_keyed
-  all_there =
-      subst (λ (x : Table). Sound (on_table x st)) (joined.table ∙ ap (λ (l : List Entry). pushes l v.base) enters.last)
-      (sound-table v.together (bounded-announce_at (txid h) c low fits v.together.bounded))
-
-  with_it : Beside n b w' (d + 1) st (mark (txid h) (push (txid h) c u))
+  with_it : Beside n b w' (d + 1) st with_them
   with_it = record {
     base = v.base;
     entries = es ++ (new ∷ []);
@@ -183,13 +145,14 @@ module _ {n now h i : ℕ} {b w : List ℕ} {d : ℕ} {st : State} {t : Table} (
     writes = v.writes;
     aside = subst (λ (l : List Entry). Aside n v.base l w' (d + 1)) enters.last joined.aside;
     room = joined.room (omega (arith, v.room, v.aside.mixed.count));
-    together = all_there;
-    table = next_table;
+    together = admitted_sound st v.base es n now h i enters.admits low v.aside.mixed.ready v.parental v.sound.bounded.ordered v.together p late short;
+    table = refl;
   }
 
   pub waits-too : NextAt n now h i b w' st t (record { kept = true; waiting = d + 1 })
   waits-too =
-      let e : one_parent m n now h i t ≡ record { reply = true; table = mark (txid h) (push (txid h) c u) } = ap (one_parent m n now h i) v.table ∙ rw asked in
+      let e : one_parent m n now h i t ≡ record { reply = true; table = with_them } =
+      ap (one_parent m n now h i) v.table ∙ admitted_more st v.base es n now h i enters.admits low v.aside.mixed.ready v.parental v.sound.bounded.ordered v.together in
       record {
         reply = sym (ap (λ (x : Answer). x.reply) e);
         beside = subst (Beside n b w' (d + 1) st) (sym (ap (λ (x : Answer). x.table) e)) with_it;

@@ -16,7 +16,7 @@ use regions::listed::Records;
 const FEW: usize = 6;
 
 // The requests of some rows are marked.
-fn mark_rows(s: &mut [u8], rows: Records<Row>)
+pub fn mark_rows(s: &mut [u8], rows: Records<Row>)
     requires { Markable s.old (words rows.bytes.now) rows.count }
     ensures { RowsMarked s.old s.new (words rows.entry.bytes.now) rows.entry.count }
 {

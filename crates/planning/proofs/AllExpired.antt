@@ -27,7 +27,7 @@ use Rattle.parenting.specs.Displacing.{Spent, Exhausted}
 use Rattle.apart.specs.Lapsing.{noted, ClearAt, Expires}
 use Rattle.apart.proofs.SlotWords.{plain-long, plain_rest}
 use Rattle.apart.proofs.BareTable.{victims-bare, sound-bare}
-use Rattle.apart.specs.Silent.{within, fail_each}
+use Rattle.postponing.specs.Silent.{within, fail_each}
 use Rattle.apart.proofs.OneOwner.{noted_none}
 use Rattle.apart.proofs.Silence.{run_went}
 use Rattle.failing.proofs.Leaving.{told}

@@ -21,7 +21,7 @@ use Rattle.store.specs.Shown.{rows_in, Kept}
 use Rattle.store.proofs.Counts.{distinct_in}
 use Rattle.store.proofs.Frame.{sizes}
 use Rattle.store.proofs.Keys.{row_number}
-use Rattle.apart.specs.Silent.{is_due}
+use Rattle.postponing.specs.Silent.{is_due}
 use Rattle.planning.specs.Expiring.{due_from, row_due, due_rows, SeekDue, BeginsAt, DueNext, NextDue}
 use Rattle.planning.specs.declared.expiring.Overdue.{Overdue}
 use Rattle.std.specs.Prelude as rust

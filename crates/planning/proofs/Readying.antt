@@ -24,16 +24,16 @@ use Rattle.machine.proofs.Tests.{test, never}
 use Rattle.store.specs.Image.{Writes}
 use Rattle.store.specs.Shown.{Kept}
 use Rattle.requests.specs.Changes.{Makes}
-use Rattle.handing.specs.Hands.{readied}
-use Rattle.handing.proofs.GivingBack.{shrinks_ready}
+use Rattle.failing.specs.Changes.{readied}
+use Rattle.failing.proofs.Readied.{shrinks_ready}
 use Rattle.apart.specs.Bare.{bare, bare_state}
 use Rattle.apart.specs.declared.slots.Spot.{Spot}
 use Rattle.apart.specs.Apart.{Slot, plain, Room, SpotNone, SpotIn, Apart, Parted}
-use Rattle.apart.specs.Silent.{within, readied_both, ready_each, due_by}
+use Rattle.postponing.specs.Silent.{within, readied_both, ready_each, due_by}
 use Rattle.apart.proofs.BareTable.{sound-bare}
 use Rattle.apart.proofs.Overdue.{front_is, rest_stays, slots_rest}
 use Rattle.apart.proofs.OneOwner.{all_room, front_within}
-use Rattle.apart.proofs.Dropping.{Keyed, filled_both, by-keyed}
+use Rattle.postponing.proofs.Dropping.{Keyed, filled_both, by-keyed}
 use Rattle.planning.specs.Expiring.{due_here, due_from, due_run, DueNext, RunReadies}
 use Rattle.planning.proofs.BareDue.{due_from_bare}
 use Rattle.planning.proofs.AllExpired.{place-small}

@@ -29,7 +29,7 @@ use Rattle.store.proofs.Bits.{key_row, owns-row, conn-row}
 use Rattle.store.proofs.Counts.{DistinctIn}
 use Rattle.store.proofs.Frame.{sizes}
 use Rattle.store.proofs.Keys.{row_number}
-use Rattle.apart.specs.Silent.{is_due}
+use Rattle.postponing.specs.Silent.{is_due}
 use Rattle.planning.specs.Expiring.{due_here, due_from, row_due, due_rows}
 
 -- ---- rows that say nothing

@@ -26,10 +26,10 @@ use Rattle.store.proofs.Keys.{row_number}
 use Rattle.announcing.specs.Drops.{kept_row}
 use Rattle.announcing.proofs.DroppingRows.{row_stays}
 use Rattle.apart.specs.Bare.{bare_state}
-use Rattle.apart.specs.Silent.{within, is_due, TestsIn, Tested, DropsIn}
+use Rattle.postponing.specs.Silent.{within, is_due, TestsIn, Tested, DropsIn}
 use Rattle.apart.proofs.Overdue.{front_is, rest_stays}
 use Rattle.apart.proofs.OneOwner.{front_within}
-use Rattle.apart.proofs.DroppedTables.{dropped_by, due_row, dropped-by}
+use Rattle.postponing.proofs.DroppedTables.{dropped_by, due_row, dropped-by}
 use Rattle.apart.proofs.Silence.{front_unburdened, run_apart}
 use Rattle.selecting.proofs.InOrder.{mapped_at}
 use Rattle.planning.specs.Expiring.{BeginsAt, RunReadies, RunExpires}

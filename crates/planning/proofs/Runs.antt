@@ -15,8 +15,8 @@ use Rattle.machine.specs.Plan.{Due, due_of, expire}
 use Rattle.machine.specs.Sound.{Ordered}
 use Rattle.machine.proofs.Alone.{Hold}
 use Rattle.machine.proofs.Tests.{test, and_right}
-use Rattle.apart.specs.Silent.{within, due_by, fail_each}
-use Rattle.apart.proofs.Dropping.{by_each}
+use Rattle.postponing.specs.Silent.{within, due_by, fail_each}
+use Rattle.postponing.proofs.Dropping.{by_each}
 use Rattle.apart.proofs.InTurn.{Went}
 use Rattle.planning.specs.Expiring.{due_from, due_run}
 use Rattle.planning.proofs.Overdue.{due_whole, due_same, Expiring}

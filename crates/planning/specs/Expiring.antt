@@ -20,7 +20,7 @@ use Rattle.places.specs.Places.{Place}
 use Rattle.apart.specs.Bare.{bare, bare_state}
 use Rattle.apart.specs.Apart.{Slot, resting, plain, ClearFrom, SpotNone, Apart}
 use Rattle.apart.specs.Lapsing.{noted}
-use Rattle.apart.specs.Silent.{within, due_by, fail_each, ready_each, is_due}
+use Rattle.postponing.specs.Silent.{within, due_by, fail_each, ready_each, is_due}
 use Rattle.planning.specs.declared.expiring.Overdue.{Overdue}
 
 -- one owner whose time is over: it fails, and its parents are announced for it

@@ -5,7 +5,7 @@ ghost use Rattle.ident.specs.Words.{key_num};
 ghost use Rattle.store.specs.Shown.{rows_in, Kept};
 ghost use Rattle.requests.specs.Changes.{Makes};
 ghost use Rattle.apart.specs.Apart.{Parted, Rested};
-ghost use Rattle.apart.specs.Silent.{readied_both};
+ghost use Rattle.postponing.specs.Silent.{readied_both};
 ghost use Rattle.planning.specs.Expiring.{SeekDue, behind, NextDue, RunReadies, RunExpires, HeldNext, ExpiresAll};
 
 use apart::SLOT;
@@ -28,7 +28,7 @@ fn seek_due(s: &[u8], clock: u64, from: usize) -> Option<regions::Row>
 {
     for i in from..store::head::rows(s) {
         let r = store::rows::row_at(s, i);
-        if apart::silent::is_due(r, clock) {
+        if postponing::silent::is_due(r, clock) {
             return Some(r);
         }
     }
@@ -98,7 +98,7 @@ fn expire_run(
         from: sweeping::batch::after_cursor(&s[..m], last),
         to: sweeping::batch::after_cursor(&s[..m], end),
     };
-    apart::silent::drop_within(&mut s[..m], run, clock);
+    postponing::silent::drop_within(&mut s[..m], run, clock);
     end
 }
 

@@ -31,19 +31,16 @@ use Rattle.store.specs.Shown.{Kept}
 use Rattle.requests.specs.Changes.{Makes, Tells}
 use Rattle.announcing.specs.Answers.{KeysListed}
 use Rattle.failing.proofs.Leaving.{owner_of_lem}
-use Rattle.apart.specs.Silent.{late, dropped_all, Unburdened}
-use Rattle.wrapping.specs.Lapses.{Timely, lapses, lapsed, lapse_one, in_turn, lapse_each, all_keyed}
+use Rattle.postponing.specs.Silent.{late, dropped_all, Unburdened}
+use Rattle.postponing.specs.Lapses.{Timely, lapses, lapsed}
+use Rattle.wrapping.specs.Lapses.{lapse_one, in_turn, lapse_each, all_keyed}
 use Rattle.lent_lists.proofs.Answer.{written_more, written_none}
 use Rattle.wrapping.proofs.Unfound.{listed_as, nothing-listed}
 use Rattle.wrapping.proofs.Turning.{Steady, bounded_turns}
-use Rattle.wrapping.proofs.Lapsed.{dropped_timely, at_stays, at_goes}
-use Rattle.wrapping.proofs.LapsedOwner.{bounded_lapsed, unburdened_lapsed, lapsed_goes, lapsed_reply}
+use Rattle.postponing.proofs.Dropped.{dropped_timely, at_stays, at_goes}
+use Rattle.postponing.proofs.LapsedOwner.{owner_waits, bounded_lapsed, unburdened_lapsed, lapsed_goes, lapsed_reply}
 
 -- ---- one request
-
-owner_waits : (n : ℕ) (o : Option Owner) → owner_is n o ≡ true → late 0 o ≡ false → alive 0 o ≡ true
-owner_waits n none e l = never e
-owner_waits n (some o) e l = elim (test (ltb 0 o.deadline)) [ inl a ↦ a | inr a ↦ never (sym l ∙ le-leb o.deadline 0 (omega (arith, ltb-false 0 o.deadline a))) ]
 
 module _ {m : Limits} {Q : ℕ} {t : Table} (b : Bounded m Q t) (n : ℕ) (k : Key) where
   owner-lapses : lapses n (at k t) ≡ true → owner_is n (at k t).owner ≡ true

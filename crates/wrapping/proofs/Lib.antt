@@ -8,11 +8,7 @@ pub mod Packaged
 pub mod Behind
 pub mod Swapped
 pub mod Idle
-pub mod Lapsed
-pub mod LapsedOwner
-pub mod LapsedSteps
 pub mod LapsedItems
-pub mod LapsedRows
 pub mod Turning
 pub mod FailedInTurn
 pub mod Keyed

@@ -15,7 +15,8 @@ ghost use Rattle.lent_lists.specs.Items.{items_in};
 ghost use Rattle.announcing.specs.Answers.{KeysListed};
 ghost use Rattle.requests.specs.Changes.{Tells};
 ghost use Rattle.wrapping.specs.Wraps.{Roomy, info_listed};
-ghost use Rattle.wrapping.specs.Lapses.{Timely, all_keyed};
+ghost use Rattle.postponing.specs.Lapses.{Timely};
+ghost use Rattle.wrapping.specs.Lapses.{all_keyed};
 
 use crate::lapsing;
 use ident::connection::Connection;
@@ -115,7 +116,7 @@ fn may_wait(s: &[u8], n: u64, items: &[u8]) -> bool
     if requests::figures(s, n).owned <= FEW as u64 {
         return false;
     }
-    all_keyed(items) && lapsing::timely(s)
+    all_keyed(items) && postponing::lapsing::timely(s)
 }
 
 // The items that the connection n does not have, up to their packages. Lists in `out` the keys of what failed, and answers how many
@@ -134,7 +135,7 @@ pub fn not_found_each(
         return fail_in_turn(s, n, items, clock, out);
     }
     let kept = lapsing::lapse_each(s, n.number, items, clock, out);
-    apart::silent::drop_due(s, 0);
+    postponing::silent::drop_due(s, 0);
     kept
 }
 

@@ -1,0 +1,12 @@
+pub mod DroppedTables
+pub mod Windowed
+pub mod Dropping
+pub mod Dropped
+pub mod DroppedCounts
+pub mod Starting
+pub mod FailingLater
+pub mod Settled
+pub mod LapsedOwner
+pub mod LapsedSteps
+pub mod LapsedRows
+pub mod Opening

@@ -1,0 +1,3 @@
+pub mod Silent
+pub mod Lapses
+pub mod Pending
