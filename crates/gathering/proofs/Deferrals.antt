@@ -17,13 +17,10 @@ use Rattle.std.specs.Prelude.{is_some}
 use Rattle.ident.specs.Number.{top, Key}
 use Rattle.regions.specs.declared.Row.{Row}
 use Rattle.regions.specs.Rows.{quad_number}
-use Rattle.machine.specs.State.{Candidate, State, limits_of}
+use Rattle.machine.specs.State.{Candidate, limits_of}
 use Rattle.machine.specs.Table.{held_at}
 use Rattle.machine.specs.Announce.{victims, greatest, at_hash, announce_keyed}
-use Rattle.machine.specs.Sound.{Sound}
 use Rattle.machine.specs.Typed.{Each}
-use Rattle.store.specs.Flat.{rows_of}
-use Rattle.store.specs.Image.{Writes}
 use Rattle.store.specs.Gather.{key_at}
 use Rattle.requests.specs.Changes.{Tells}
 use Rattle.announcing.specs.Enters.{Crowded}
