@@ -8,7 +8,7 @@ use mathlib.Core.Option.{Option, none, some}
 use native.Mathlib.Numerals.{add-one}
 use native.Mathlib.Omega.{arith}
 use lib.Dec.{eqb}
-use lib.ListN.{length, take, drop, get_or}
+use lib.ListN.{length, take, drop, get_or, take-append-drop}
 use borrow.Author.Tests.{leb-true, leb-false}
 use lib.Seq.{drop-cons, take-suc}
 use Rattle.std.specs.List.{list_any, range_with_len}
@@ -17,18 +17,19 @@ use Rattle.std.specs.Prelude.{is_some}
 use Rattle.ident.specs.Number.{top, Key}
 use Rattle.regions.specs.declared.Row.{Row}
 use Rattle.regions.specs.Rows.{quad_number}
-use Rattle.machine.specs.State.{Candidate, State, limits_of}
-use Rattle.machine.specs.Table.{held_at}
+use Rattle.machine.specs.State.{Candidate, limits_of}
+use Rattle.machine.specs.Table.{one, under, held_at}
 use Rattle.machine.specs.Announce.{victims, greatest, at_hash, announce_keyed}
-use Rattle.machine.specs.Sound.{Sound}
 use Rattle.machine.specs.Typed.{Each}
 use Rattle.store.specs.Flat.{rows_of}
-use Rattle.store.specs.Image.{Writes}
 use Rattle.store.specs.Gather.{key_at}
+use Rattle.store.specs.FlatSound.{count_rows}
+use Rattle.store.proofs.Counts.{count-rows}
+use Rattle.store.proofs.Missing.{each_at}
 use Rattle.requests.specs.Changes.{Tells}
 use Rattle.announcing.specs.Enters.{Crowded}
 use Rattle.announcing.specs.Evicts.{found}
-use Rattle.announcing.specs.Falls.{no_row, ListedRow}
+use Rattle.announcing.specs.Falls.{no_row, numbered, ListedRow}
 use Rattle.machine.proofs.Tests.{or_left, or_right}
 use Rattle.announcing.proofs.Nobody.{none_greatest}
 use Rattle.announcing.proofs.Scanning.{none_found}
@@ -59,6 +60,30 @@ module _ (rows : List Row) (h : ℕ) where
 
   pub listed_by : {n : ℕ} → n ≤ length rows → list_any at_row (range_with_len 0 n) ≡ false → Each (λ (y : Row). eqb (key_at y).hash h ≡ false) (take n rows)
   listed_by {n} l e = none_from n 0 (omega arith) e
+
+-- ---- a hash that has no candidates
+
+none_counted : (p : Row → Bool) (rs : List Row) → count_rows p rs ≡ 0 → Each (λ (r : Row). p r ≡ false) rs
+unfolding count_rows
+none_counted p [] e = tt
+none_counted p (r ∷ rs) e = (none_one (p r) (omega arith), none_counted p rs (omega arith))
+  where
+    none_one : (x : Bool) → one x ≡ 0 → x ≡ false
+    none_one true z = absurd (omega arith)
+    none_one false z = refl
+
+each_numbered : (P : Row → Type 0) (rs : List Row) (ns : List ℕ) → Each P rs → Each (λ (i : ℕ). i < length rs) ns → Each P (numbered rs ns)
+each_numbered P rs [] a l = tt
+each_numbered P rs (i ∷ ns) a l = (each_at P rs i no_row a l.0, each_numbered P rs ns a l.1)
+
+-- no victim is at it
+pub listed-nowhere : {b v : List ℕ} {m : ℕ} (n h : ℕ) {d : ℕ} → Tells b (λ t. d ≡ held_at h t) → d ≡ 0 → ListedAt b v m n h false
+listed-nowhere {b} {v} {m} n h {d} q e f st s w x =
+    let P : Row → Type 0 = λ y. eqb (key_at y).hash h ≡ false in
+    let rs = rows_of st.table in
+    let none : Each P rs = none_counted (λ (r : Row). under h (key_at r) r.conn) rs (count-rows (under h) st.table ∙ sym (q st s w) ∙ e) in
+    let all : Each P x.rows = subst (Each P) (sym x.are) (each_numbered P rs (take m v) none x.inside) in
+    (each_front P (take n x.rows) (drop n x.rows) (subst (Each P) (sym (take-append-drop n x.rows)) all)).0
 
 -- ---- how it fares
 

@@ -1,6 +1,6 @@
 -- The first of the victims listed go: in one pass, or one after the other.
 use Prim.Native.Nat.{ℕ, suc, ◌+◌, ◌-◌, ◌/◌, ◌%◌, ◌≤◌, ◌<◌}
-use mathlib.Core.Path.{◌≡◌, refl, sym, ap, subst, ◌∙◌}
+use mathlib.Core.Path.{◌≡◌, sym, ap, subst, ◌∙◌}
 use mathlib.Core.Bool.{Bool, true, false, not, ◌&&◌}
 use mathlib.Core.List.{List, [], ◌∷◌, ◌++◌, append_assoc}
 use native.Mathlib.Omega.{arith}
@@ -11,7 +11,7 @@ use borrow.Author.Tests.{not-true, eqb-false}
 use Rattle.ident.specs.Number.{Key}
 use Rattle.regions.specs.declared.Row.{Row}
 use Rattle.regions.specs.Regions.{each}
-use Rattle.machine.specs.State.{State, Table, on_table, owner_is}
+use Rattle.machine.specs.State.{State, on_table, owner_is}
 use Rattle.machine.specs.Table.{at, has}
 use Rattle.machine.specs.Announce.{after, cut}
 use Rattle.machine.specs.Sound.{Sound}
@@ -19,7 +19,6 @@ use Rattle.machine.proofs.Tests.{and_left, or_right}
 use Rattle.store.specs.Flat.{own_bit, rows_of, tally}
 use Rattle.store.specs.Gather.{key_at}
 use Rattle.store.specs.Image.{Writes}
-use Rattle.store.specs.Shown.{Kept}
 use Rattle.requests.specs.Changes.{Makes, Shorn}
 use Rattle.requests.proofs.Keeping.{writes_by}
 use Rattle.announcing.specs.Drops.{kept_row}
@@ -28,7 +27,7 @@ use Rattle.announcing.specs.Falls.{no_row, cuts, goes_by, Foremost, VictimRows, 
 use Rattle.announcing.proofs.Entering.{cut-writes}
 use Rattle.announcing.proofs.Giving.{first_goes}
 use Rattle.announcing.proofs.GoneBy.{rows-cuts}
-use Rattle.announcing.proofs.GoneTogether.{cuts_more, cuts-sound, cuts_left, cuts-places}
+use Rattle.announcing.proofs.GoneTogether.{cuts-places}
 use Rattle.gathering.specs.Deferring.{Gone}
 
 -- ---- the row at i

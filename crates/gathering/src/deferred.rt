@@ -8,6 +8,7 @@ ghost use Rattle.words.specs.Words.{words};
 ghost use Rattle.regions.specs.Rows.{row_size};
 ghost use Rattle.store.specs.Shown.{Kept};
 ghost use Rattle.requests.specs.Changes.{candidate_of};
+ghost use Rattle.requests.specs.Windows.{Windowed};
 ghost use Rattle.announcing.specs.Falls.{VictimsIn};
 ghost use Rattle.gathering.specs.Aside.{space, RowsOrFare};
 ghost use Rattle.gathering.specs.Deferring.{ListedAt, SuitedIn, Deferred};
@@ -17,7 +18,8 @@ use crate::{beside, region};
 use announcing::foremost::Victims;
 use regions::Row;
 use regions::listed::Records;
-use requests::Window;
+use requests::windows::Windows;
+use requests::{Window, windows};
 
 // Whether one of the first n victims listed is at the hash h.
 fn listed_at(s: &[u8], top: &Victims, n: usize, h: ident::Hash) -> bool
@@ -25,6 +27,17 @@ fn listed_at(s: &[u8], top: &Victims, n: usize, h: ident::Hash) -> bool
     ensures { ListedAt s.now (words top.now.bytes) top.now.count n (hash_num h) result }
 {
     (0..n).any(|i| lent_lists::same_hash(ident::Hash::from(top.get(s, i).hash), h))
+}
+
+// The same at a hash whose rows are those of w: where it has none, no victim is looked at.
+fn is_of_listed(s: &[u8], top: &Victims, n: usize, h: ident::Hash, w: Windows) -> bool
+    requires { Kept s.now × VictimsIn s.now (words top.now.bytes) top.now.count × (n ≤ top.now.count) × Windowed s.now (hash_num h) w }
+    ensures { ListedAt s.now (words top.now.bytes) top.now.count n (hash_num h) result }
+{
+    if windows::candidates_in(s, h, w) == 0 {
+        return false;
+    }
+    listed_at(s, top, n, h)
 }
 
 // How the announcement c at k fares beside those that wait, if the candidate of the row y, the next of the victims, goes for
@@ -47,12 +60,15 @@ fn suits(
         return Err(Fare::Alone);
     }
     let h = k.hash;
-    if listed_at(s, top, new.count + 1, h) {
-        return Err(Fare::Alone);
-    }
     let Some(w) = beside::open_rows(s, new, k, c.connection) else {
+        if listed_at(s, top, new.count + 1, h) {
+            return Err(Fare::Alone);
+        }
         return Err(Fare::Nothing);
     };
+    if is_of_listed(s, top, new.count + 1, h, w) {
+        return Err(Fare::Alone);
+    }
     if announcing::keyed::crowded_in(s, h, w) {
         if announcing::evict::victim_in(s, h, w).is_some() {
             return Err(Fare::Alone);

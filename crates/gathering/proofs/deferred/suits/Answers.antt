@@ -10,8 +10,8 @@ use Rattle.gathering.proofs.deferred.suits.Goals as goal
 pub returns-then-crowded_in : goal.returns-then-crowded_in
 returns-then-crowded_in c = (
   suited-crowded (not-false c.args.c.preferred
-      c.if-not-c.false) c.listed_at.ensures
-      c.if-listed_at.false c.crowded_in.ensures c.if-crowded_in.true c.victim_in.result
+      c.if-not-c.false) c.is_of_listed.ensures
+      c.if-is_of_listed.false c.crowded_in.ensures c.if-crowded_in.true c.victim_in.result
       c.victim_in.ensures (sym c.is_some.ensures ∙ c.if-is_some.false),
   λ e. cc,
 )
@@ -19,8 +19,8 @@ returns-then-crowded_in c = (
 pub returns : goal.returns
 returns c = (
   suited_in (not-false c.args.c.preferred c.if-not-c.false)
-      c.listed_at.ensures
-      c.if-listed_at.false (omega
+      c.is_of_listed.ensures
+      c.if-is_of_listed.false (omega
       (arith, c.if-new-ge-SPACE.false))
       c.in-Some.ensures.0 refl
       c.crowded_in.ensures c.if-crowded_in.false
