@@ -10,3 +10,5 @@ pub mod LapsedOwner
 pub mod LapsedSteps
 pub mod LapsedRows
 pub mod Opening
+pub mod Adopting
+pub mod Considering
