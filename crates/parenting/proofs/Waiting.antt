@@ -34,7 +34,7 @@ use Rattle.gathering.specs.declared.beside.Fare.TheVariants.{Nothing, Waits as W
 use Rattle.gathering.specs.contracts.beside.FarePartialEq.TheImpl.{eq-value}
 use Rattle.gathering.specs.Counted.{then_wait}
 use Rattle.gathering.specs.Merges.{gathered}
-use Rattle.gathering.specs.Waits.{pushes, waits}
+use Rattle.gathering.specs.Waits.{pushes}
 use Rattle.gathering.specs.Aside.{space, Empty, Aside, Joined, Enters, SetAside, ComeIn}
 use Rattle.gathering.proofs.ComingIn.{length-gathered}
 use Rattle.gathering.proofs.OneMore.{each_more}

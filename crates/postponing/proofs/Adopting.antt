@@ -11,7 +11,7 @@ use Rattle.ident.specs.declared.Kind.{Kind}
 use Rattle.ident.specs.declared.Kind.TheVariants.{Txid, Wtxid}
 use Rattle.ident.specs.Number.{top, Key, place, other, txid, wtxid}
 use Rattle.machine.specs.Limits.{Limits, word}
-use Rattle.machine.specs.State.{Candidate, Entry, Request, Table, State, Answer, limits_of, on_table, done, with_candidates, marked}
+use Rattle.machine.specs.State.{Candidate, Entry, Request, Table, State, Answer, limits_of, on_table, done, blank, with_candidates, marked}
 use Rattle.machine.specs.Table.{at, change, has, any, count_in, held, is_candidate}
 use Rattle.machine.specs.Announce.{adopt, adopted, request_parent_at}
 use Rattle.machine.specs.Fail.{parent_of, mark}
@@ -158,11 +158,11 @@ module _ {b w : List ℕ} {d c : ℕ} {st : State} {t : Table} (v : Pending b w 
     as_many q o =
         omega (arith, count_exact any j g 0 q o, count_exact any (txid h) marked 0 (change j g q) (ordered' q o), adopt_as_many same (parent_of n now h i) (at j q).candidates)
 
-    all_F : (P : Request → Type 0) → ((r : Request) → P r → P (g r)) → ((r : Request) → P r → P (marked r)) → ((k : Key) → P (at k [])) → All P v.base → All P (F v.base)
+    all_F : (P : Request → Type 0) → ((r : Request) → P r → P (g r)) → ((r : Request) → P r → P (marked r)) → ((k : Key) → P (blank k)) → All P v.base → All P (F v.base)
     all_F P a e z l =
-        let l' = all_change P j g 0 v.base v.sound.bounded.ordered (a (at j v.base) (all_at P j v.base (unfold at in (z j)) l)) l in
+        let l' = all_change P j g 0 v.base v.sound.bounded.ordered (a (at j v.base) (all_at P j v.base (z j) l)) l in
         all_change P (txid h) marked 0 (change j g v.base) (ordered' v.base v.sound.bounded.ordered)
-        (e (at (txid h) (change j g v.base)) (all_at P (txid h) (change j g v.base) (unfold at in (z (txid h))) l')) l'
+        (e (at (txid h) (change j g v.base)) (all_at P (txid h) (change j g v.base) (z (txid h)) l')) l'
 
     module _ (asked : (q : Table) → at (txid h) q ≡ at (txid h) v.base → at (wtxid h) q ≡ at (wtxid h) v.base → one_parent m n now h i q ≡ done (F q)) where
       sound_F : (q : Table) → at (txid h) q ≡ at (txid h) v.base → at (wtxid h) q ≡ at (wtxid h) v.base → Sound (on_table q st) → Sound (on_table (F q) st)

@@ -2,27 +2,32 @@
 use Prim.Native.Nat.{ℕ, ◌+◌, ◌-◌, ◌≤◌, ◌<◌}
 use mathlib.Core.Path.{◌≡◌, refl, sym, ap, subst, ◌∙◌}
 use mathlib.Core.Bool.{Bool, true, false}
+use mathlib.Core.Logic.{inl, inr}
 use mathlib.Core.List.{List, [], ◌∷◌, ◌++◌}
 use mathlib.Core.Option.{Option, none, some}
 use native.Mathlib.Omega.{arith}
-use lib.Dec.{leb}
+use lib.Dec.{leb, eqb}
 use lib.ListN.{length}
-use borrow.Author.Tests.{leb-true, leb-false}
-use Rattle.std.specs.Prelude.{None}
+use borrow.Author.Tests.{leb-true, leb-false, eq-eqb, ne_eqb}
+use Rattle.std.specs.Prelude.{Some, None}
 use Rattle.std.specs.Prelude as std
-use Rattle.ident.specs.Number.{top, Key, txid}
+use Rattle.ident.specs.Number.{top, Key, place, txid}
 use Rattle.regions.specs.declared.Row.{Row}
 use Rattle.machine.specs.Limits.{Limits, max_peer_announcements, word}
 use Rattle.machine.specs.State.{Candidate, Entry, Table, State, Answer, limits_of, on_table}
-use Rattle.machine.specs.Table.{held, held_by, is_candidate}
+use Rattle.machine.specs.Table.{at, held, held_by, is_candidate}
 use Rattle.machine.specs.Announce.{victims, greatest, at_hash}
 use Rattle.machine.specs.Fail.{parent_of}
 use Rattle.machine.specs.Sound.{Sound}
 use Rattle.machine.specs.Typed.{Each}
 use Rattle.machine.proofs.Fail.{Peer}
-use Rattle.machine.proofs.Tests.{never}
+use Rattle.machine.proofs.Tests.{test, never}
 use Rattle.store.specs.Image.{Writes}
-use Rattle.requests.specs.Changes.{Tells}
+use Rattle.package_stages.specs.declared.Owner.{Owner as OwnerRead}
+use Rattle.package_stages.specs.Changes.{owner_as, OwnerAmong}
+use Rattle.package_stages.proofs.Owners.{owner-is}
+use Rattle.requests.specs.Changes.{Tells, Spans}
+use Rattle.requests.proofs.Keeping.{from_at, to_at}
 use Rattle.announcing.specs.Answers.{Answered, one_parent}
 use Rattle.announcing.specs.Enters.{Crowded}
 use Rattle.announcing.specs.Evicts.{found}
@@ -35,7 +40,8 @@ use Rattle.parenting.specs.Displacing.{Spent}
 use Rattle.parenting.proofs.Admitted.{admitted_more, admitted_sound}
 use Rattle.postponing.specs.declared.among.Reply.{Reply}
 use Rattle.postponing.specs.declared.among.Reply.TheVariants as reply
-use Rattle.postponing.specs.Silent.{dropped_all}
+use Rattle.postponing.specs.contracts.among.ReplyPartialEq.TheImpl.{eq-value}
+use Rattle.postponing.specs.Silent.{late, dropped_all}
 use Rattle.postponing.specs.Pending.{Living, Pending, Open, FullWith, AmongAt, Considers, Among}
 use Rattle.postponing.proofs.Opening.{open_admits, open_spent, open_crowded}
 use Rattle.postponing.proofs.Adopting.{adopts_in}
@@ -70,9 +76,9 @@ module _ {b w : List ℕ} {d c : ℕ} {spent : Bool} {n now h i : ℕ} where
       refused = λ _ st t v x new f. open_spent v h s x n new now i (leb-true _ _ (sym (q (on_table v.base st) v.sound v.writes) ∙ e)) (f k);
     }
 
-    pub considers_in : {r f : Bool} {y : ℕ} → Crowded b h r → r ≡ false → FullWith b d c f → f ≡ false → Tells b (λ t. y ≡ held_by n t) → y < max_peer_announcements - d → d ≤ space
+    pub considers_in : {r f : Bool} {y : ℕ} → Crowded b h r → r ≡ false → FullWith b d c f → f ≡ false → Tells b (λ t. y ≡ held_by n t) → y < max_peer_announcements - d
         → Considers n now h i b w d c spent reply.Kept
-    considers_in q e p o k l most = record {
+    considers_in q e p o k l = record {
       kept = λ _ st t v x new.
           let z = on_table v.base st in
           open_admits v h s x n new now i (leb-false _ _ (sym (p z v.sound v.writes) ∙ o)) (leb-false _ _ (sym (q z v.sound v.writes) ∙ e)) (omega (arith, k z v.sound v.writes));
@@ -96,9 +102,6 @@ module _ {b w : List ℕ} {d c : ℕ} {spent : Bool} {n now h i : ℕ} where
     }
 
     module _ (new : Tells b (λ t. is_candidate n h t ≡ false)) where
-      abbrev New : {st : State} {t : Table} → Pending b w d c st t → Type 0
-      New v = is_candidate n h v.base ≡ false
-
       pub among_refused : Considers n now h i b w d c spent reply.Refused → Among n now h i b b w w d d c spent reply.Refused
       among_refused y = record {
         kept = λ e. cc;
@@ -108,10 +111,12 @@ module _ {b w : List ℕ} {d c : ℕ} {spent : Bool} {n now h i : ℕ} where
         alone = λ e. cc;
       }
 
-      pub among_waits : Peer n → now < word → i < word → Considers n now h i b w d c spent reply.Kept → {w' : List ℕ} {d' : ℕ} → WaitsToo b w w' d (txid h) (parent_of n now h i) → d' ≡ d + 1
+      pub among_waits : Peer n → now < word → i < word → Considers n now h i b w d c spent reply.Kept → {w' : List ℕ} {d' : ℕ} {j : Key} {o : Candidate} → j ≡ txid h → o ≡ parent_of n now h i
+          → WaitsToo b w w' d j o → d' ≡ d + 1
           → Among n now h i b b w w' d d' c spent reply.Kept
-      among_waits p early short y {w'} {d'} m q = record {
+      among_waits p early short y {w'} {d'} e₁ e₂ m' q = record {
         kept = λ _ st t v.
+            let m : WaitsToo b w w' d (txid h) (parent_of n now h i) = rw (e₁, e₂) at m' in
             let z = on_table v.base st in
             let x = open_here a l v in
             let one = new z v.sound v.writes in
@@ -144,3 +149,34 @@ module _ {b w : List ℕ} {d c : ℕ} {spent : Bool} {n now h i : ℕ} where
         refused = λ e. cc;
         alone = λ e. cc;
       }
+
+-- ---- the test by which it is told
+
+pub is_kept : (r : Reply) {x : Bool} → x ≡ eq-value.it r reply.Kept → x ≡ true → r ≡ reply.Kept
+is_kept reply.Kept e o = refl
+is_kept reply.Refused e o = never (sym e ∙ o)
+is_kept reply.Alone e o = never (sym e ∙ o)
+
+pub among_rest : {b w : List ℕ} {d c : ℕ} {spent : Bool} {n now h i : ℕ} → h < top → OpenAt w d h true → Tells b (λ t. Living t h) → Tells b (λ t. is_candidate n h t ≡ false)
+    → (r : Reply) {x : Bool} → x ≡ eq-value.it r reply.Kept → x ≡ false → Considers n now h i b w d c spent r → Among n now h i b b w w d d c spent r
+among_rest s a l new reply.Kept e o y = never (sym o ∙ e)
+among_rest s a l new reply.Refused e o y = among_refused s a l new y
+among_rest s a l new reply.Alone e o y = among_alone refl refl refl
+
+-- ---- an owner that is to go, told by the rows of its request
+
+zero_late : (d : ℕ) → eqb d 0 ≡ leb d 0
+zero_late d = elim (test (leb d 0)) [
+  | inl e ↦ eq-eqb d 0 (omega (arith, leb-true d 0 e)) ∙ sym e
+  | inr e ↦ ne_eqb d 0 (λ z. omega (arith, leb-false d 0 e)) ∙ sym e
+]
+
+module _ {b : List ℕ} {from to : ℕ} (k : Key) (s : k.hash < top) (p : Spans b (place k) from to) where
+  told_in : (r : std.Option OwnerRead) → OwnerAmong b from to r → Tells b (λ t. late 0 (owner_as r) ≡ late 0 (at k t).owner)
+  told_in r a st g w = ap (late 0) (owner-is st g k (from_at st g k s refl (p.from_is st g w)) (to_at st g k s refl (p.to_is st g w)) w r a)
+
+  pub goes_not : {r : std.Option OwnerRead} → OwnerAmong b from to r → r ≡ None → Tells b (λ t. false ≡ late 0 (at k t).owner)
+  goes_not {r} a e st g w = sym (ap (λ (x : std.Option OwnerRead). late 0 (owner_as x)) e) ∙ told_in r a st g w
+
+  pub goes_by : {r : std.Option OwnerRead} {o : OwnerRead} → OwnerAmong b from to r → r ≡ Some o → Tells b (λ t. eqb o.deadline 0 ≡ late 0 (at k t).owner)
+  goes_by {r} {o} a e st g w = zero_late o.deadline ∙ sym (ap (λ (x : std.Option OwnerRead). late 0 (owner_as x)) e) ∙ told_in r a st g w
