@@ -1,5 +1,5 @@
 -- A parent whose connection has announced its hash, at which nobody waits and no owner is to go: what it brings is adopted in place.
-use Prim.Native.Nat.{ℕ, suc, ◌+◌, ◌≤◌, ◌<◌}
+use Prim.Native.Nat.{ℕ, ◌+◌, ◌≤◌, ◌<◌}
 use mathlib.Core.Path.{◌≡◌, refl, sym, ap, subst, ◌∙◌}
 use mathlib.Core.Logic.{inl, inr}
 use mathlib.Core.Bool.{Bool, true, false, ◌||◌}
@@ -9,14 +9,13 @@ use lib.Dec.{eqb}
 use lib.ListN.{length}
 use Rattle.ident.specs.declared.Kind.{Kind}
 use Rattle.ident.specs.declared.Kind.TheVariants.{Txid, Wtxid}
-use Rattle.ident.specs.Number.{top, Key, place, other, txid, wtxid}
+use Rattle.ident.specs.Number.{top, Key, place, txid, wtxid}
 use Rattle.machine.specs.Limits.{Limits, word}
 use Rattle.machine.specs.State.{Candidate, Entry, Request, Table, State, Answer, limits_of, on_table, done, blank, with_candidates, marked}
 use Rattle.machine.specs.Table.{at, change, has, any, count_in, held, is_candidate}
 use Rattle.machine.specs.Announce.{adopt, adopted, request_parent_at}
 use Rattle.machine.specs.Fail.{parent_of, mark}
-use Rattle.machine.specs.Sound.{Ordered, All, Filled, Sound, Bounded}
-use Rattle.machine.specs.Typed.{Each}
+use Rattle.machine.specs.Sound.{Ordered, All, Filled, Sound}
 use Rattle.machine.proofs.At.{kept, at_same, at_other, other_place}
 use Rattle.machine.proofs.Fail.{Peer}
 use Rattle.machine.proofs.Kept.{sound-table}
@@ -25,13 +24,13 @@ use Rattle.machine.proofs.Tests.{test}
 use Rattle.store.specs.Image.{Writes}
 use Rattle.package_stages.specs.Changes.{has_place}
 use Rattle.requests.proofs.Holding.{either-kind}
-use Rattle.announcing.specs.Answers.{Answered, one_parent}
-use Rattle.gathering.specs.Waits.{pushes, waits}
+use Rattle.announcing.specs.Answers.{one_parent}
+use Rattle.gathering.specs.Waits.{pushes}
 use Rattle.gathering.proofs.Elsewhere.{at_pushes, change-pushes, mixed_still}
 use Rattle.parenting.specs.Waiting.{marks, keys_of}
 use Rattle.parenting.proofs.Waiting.{bounded_one}
 use Rattle.postponing.specs.Silent.{late, dropped_in, dropped_all}
-use Rattle.postponing.specs.Pending.{Unplaced, Living, Pending, Open, AmongAt}
+use Rattle.postponing.specs.Pending.{Living, Pending, Open, AmongAt}
 use Rattle.postponing.proofs.Dropped.{dropped_change}
 use Rattle.postponing.proofs.DroppedCounts.{count_exact, txid_stays, wtxid_stays}
 use Rattle.postponing.proofs.FailingLater.{living_still, change-waiting}

@@ -1,28 +1,23 @@
 -- How a parent fares at an open hash that its connection has announced under neither kind, and what comes of it.
-use Prim.Native.Nat.{ℕ, ◌+◌, ◌-◌, ◌≤◌, ◌<◌}
+use Prim.Native.Nat.{ℕ, ◌+◌, ◌-◌, ◌<◌}
 use mathlib.Core.Path.{◌≡◌, refl, sym, ap, subst, ◌∙◌}
 use mathlib.Core.Bool.{Bool, true, false}
 use mathlib.Core.Logic.{inl, inr}
 use mathlib.Core.List.{List, [], ◌∷◌, ◌++◌}
-use mathlib.Core.Option.{Option, none, some}
+use mathlib.Core.Option.{Option, none}
 use native.Mathlib.Omega.{arith}
 use lib.Dec.{leb, eqb}
-use lib.ListN.{length}
 use borrow.Author.Tests.{leb-true, leb-false, eq-eqb, ne_eqb}
 use Rattle.std.specs.Prelude.{Some, None}
 use Rattle.std.specs.Prelude as std
 use Rattle.ident.specs.Number.{top, Key, place, txid}
-use Rattle.regions.specs.declared.Row.{Row}
-use Rattle.machine.specs.Limits.{Limits, max_peer_announcements, word}
+use Rattle.machine.specs.Limits.{max_peer_announcements, word}
 use Rattle.machine.specs.State.{Candidate, Entry, Table, State, Answer, limits_of, on_table}
-use Rattle.machine.specs.Table.{at, held, held_by, is_candidate}
+use Rattle.machine.specs.Table.{at, held_by, is_candidate}
 use Rattle.machine.specs.Announce.{victims, greatest, at_hash}
 use Rattle.machine.specs.Fail.{parent_of}
-use Rattle.machine.specs.Sound.{Sound}
-use Rattle.machine.specs.Typed.{Each}
 use Rattle.machine.proofs.Fail.{Peer}
 use Rattle.machine.proofs.Tests.{test, never}
-use Rattle.store.specs.Image.{Writes}
 use Rattle.package_stages.specs.declared.Owner.{Owner as OwnerRead}
 use Rattle.package_stages.specs.Changes.{owner_as, OwnerAmong}
 use Rattle.package_stages.proofs.Owners.{owner-is}
@@ -32,17 +27,16 @@ use Rattle.announcing.specs.Answers.{Answered, one_parent}
 use Rattle.announcing.specs.Enters.{Crowded}
 use Rattle.announcing.specs.Evicts.{found}
 use Rattle.announcing.proofs.Entering.{fresh}
-use Rattle.gathering.specs.Waits.{pushes, Admits}
-use Rattle.gathering.specs.Aside.{space, OpenAt, Among as WaitsToo}
+use Rattle.gathering.specs.Waits.{pushes}
+use Rattle.gathering.specs.Aside.{OpenAt, Among as WaitsToo}
 use Rattle.gathering.proofs.OneMore.{each_more}
 use Rattle.parenting.specs.Waiting.{marks, keys_of, Parental}
-use Rattle.parenting.specs.Displacing.{Spent}
 use Rattle.parenting.proofs.Admitted.{admitted_more, admitted_sound}
 use Rattle.postponing.specs.declared.among.Reply.{Reply}
 use Rattle.postponing.specs.declared.among.Reply.TheVariants as reply
 use Rattle.postponing.specs.contracts.among.ReplyPartialEq.TheImpl.{eq-value}
 use Rattle.postponing.specs.Silent.{late, dropped_all}
-use Rattle.postponing.specs.Pending.{Living, Pending, Open, FullWith, AmongAt, Considers, Among}
+use Rattle.postponing.specs.Pending.{Living, Pending, Open, FullWith, Considers, Among}
 use Rattle.postponing.proofs.Opening.{open_admits, open_spent, open_crowded}
 use Rattle.postponing.proofs.Adopting.{adopts_in}
 

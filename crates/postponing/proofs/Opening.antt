@@ -6,15 +6,14 @@ use mathlib.Core.Bool.{Bool, true, false, ◌||◌}
 use mathlib.Core.List.{List, [], ◌∷◌, ◌++◌}
 use native.Mathlib.Omega.{arith}
 use lib.Dec.{ltb, leb, eqb}
-use lib.ListN.{length}
 use borrow.Author.Tests.{le-leb, eqb-true, eq-eqb}
 use Rattle.ident.specs.declared.Kind.{Kind}
 use Rattle.ident.specs.declared.Kind.TheVariants.{Txid, Wtxid}
 use Rattle.ident.specs.Number.{top, Key, txid, wtxid}
 use Rattle.machine.specs.Limits.{Limits, max_peer_announcements}
-use Rattle.machine.specs.State.{Candidate, Entry, Request, Table, State, Answer, limits_of, refused, blank}
+use Rattle.machine.specs.State.{Candidate, Entry, Request, Table, State, limits_of, refused}
 use Rattle.machine.specs.Table.{at, has, any, by, under, by_under, count, held, held_by, held_at, is_candidate}
-use Rattle.machine.specs.Announce.{victims_in, victims, greatest, at_hash, evicting, announce_at, request_parent_at}
+use Rattle.machine.specs.Announce.{victims_in, victims, at_hash, announce_at, request_parent_at}
 use Rattle.machine.specs.Fail.{parent_of}
 use Rattle.machine.specs.Sound.{Ordered, All, Filled}
 use Rattle.machine.proofs.Table.{all_at, at_key}
@@ -25,12 +24,12 @@ use Rattle.announcing.proofs.Deciding.{when-barred, when-crowded}
 use Rattle.gathering.specs.Waits.{pushes, waits, Admits}
 use Rattle.gathering.proofs.Waiting.{held_beside, at_beside, candidate_beside}
 use Rattle.gathering.proofs.Elsewhere.{at_pushes}
-use Rattle.parenting.specs.Waiting.{marks, keys_of}
+use Rattle.parenting.specs.Waiting.{keys_of}
 use Rattle.parenting.specs.Displacing.{Spent}
 use Rattle.parenting.proofs.Marking.{at_marks, count-marks, entries-else}
 use Rattle.parenting.proofs.Spent.{none_left, none_right, evicting_none, spent_left}
 use Rattle.postponing.specs.Silent.{dropped_all}
-use Rattle.postponing.specs.Pending.{Living, Pending, Open}
+use Rattle.postponing.specs.Pending.{Pending, Open}
 use Rattle.postponing.proofs.DroppedCounts.{fewer_dropped, txid_stays, wtxid_stays, held_stays, candidate_stays}
 use Rattle.postponing.proofs.Starting.{each_at, pending_sound}
 

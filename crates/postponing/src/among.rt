@@ -12,9 +12,8 @@ ghost use Rattle.postponing.specs.Pending.{Living, Pends, FullWith, GoesIn, Cons
 use gathering::rows::Waiting;
 use machine::limits::MAX_PEER_ANNOUNCEMENTS;
 use parenting::parent::Parent;
-use requests::Window;
-use requests::windows;
 use requests::windows::Windows;
+use requests::{Window, windows};
 
 // How a parent fares.
 #[derive(Clone, Copy, Debug, PartialEq, Eq)]
