@@ -12,3 +12,4 @@ pub mod LapsedRows
 pub mod Opening
 pub mod Adopting
 pub mod Considering
+pub mod Leftover
