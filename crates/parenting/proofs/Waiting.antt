@@ -160,7 +160,7 @@ module _ {n now h i : ℕ} {b w : List ℕ} {d : ℕ} {st : State} {t : Table} (
 
 -- ---- one announced where none waits
 
-bounded_one : {m : Limits} {Q : ℕ} {t : Table} (n now h i : ℕ) → Peer n → now < word → i < word → h < top → Bounded m Q t → Bounded m Q (one_parent m n now h i t).table
+pub bounded_one : {m : Limits} {Q : ℕ} {t : Table} (n now h i : ℕ) → Peer n → now < word → i < word → h < top → Bounded m Q t → Bounded m Q (one_parent m n now h i t).table
 bounded_one {m} {Q} {t} n now h i p w v s b =
     let x = request_parent_at m (txid h) (parent_of n now h i) t in
     let b' = bounded-parent_at (txid h) (parent_of n now h i) s (record { item = refl; positive = p.positive; connection = p.small; ready = w; priority = v }) b in

@@ -166,3 +166,7 @@ module _ {b w : List ℕ} {st : State} {t : Table} where
 
     pub none_empty : Empty w
     none_empty = empty_none v.entries v.base v.mixed.count v.mixed.rows
+
+-- after what was announced by itself
+pub pending_again : {b b' w : List ℕ} {st : State} {t t' : Table} → Pending b w 0 0 st t → Alone t t' → Sound (on_table t' st) → Writes b' (on_table t' st) → Pending b' w 0 0 st t'
+pending_again v a s g = pending_start s g (plain_alone a s.bounded.ordered (pending_plain v)) (none_empty v)
