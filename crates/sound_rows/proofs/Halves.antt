@@ -87,7 +87,8 @@ module _ (d : Row) where
   marked_at r (s ∷ rs) m zero h e = m.0 e
   marked_at r (s ∷ rs) m (suc q) h e = marked_at s rs m.1 q (omega arith) e
 
-  marks_at : (rs : List Row) → SameMarks rs → (q : ℕ) → suc q < length rs → place (key_at (get_or rs q d)) ≡ place (key_at (get_or rs (suc q) d)) → mark_bit (get_or rs q d) ≡ mark_bit (get_or rs (suc q) d)
+  marks_at : (rs : List Row) → SameMarks rs → (q : ℕ) → suc q < length rs → place (key_at (get_or rs q d)) ≡ place (key_at (get_or rs (suc q) d))
+      → mark_bit (get_or rs q d) ≡ mark_bit (get_or rs (suc q) d)
   marks_at [] m q h e = absurd (omega arith)
   marks_at (r ∷ rs) m q h e = marked_at r rs m q (omega arith) e
 

@@ -69,7 +69,8 @@ returns-then-not-same_hash c =
       owners = v.owners;
       few = v.few;
       once = λ o others m d. let a = v.once o others m d in (a.0, a.2);
-      fit = fitting_met c.args.kind (words c.args.part.rows.bytes.now) c.args.part.from c.loop-i.i c.loop-i.auto.i c.args.part.to (quad_number c.args.h) c.loop-i.fit c.quad_less-rises.result (omega arith)
+      fit = fitting_met c.args.kind (words c.args.part.rows.bytes.now) c.args.part.from c.loop-i.i c.loop-i.auto.i
+          c.args.part.to (quad_number c.args.h) c.loop-i.fit c.quad_less-rises.result (omega arith)
           (rw c.get-r.ensures.words_are at c.quad_less-rises.ensures) v.fit;
     }
 
