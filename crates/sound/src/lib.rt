@@ -98,10 +98,7 @@ fn records_fit(rows: Records<Row>, conns: Records<Conn>, places: &[u8], p: usize
     requires { (8 * (place_size * p) ≤ length places.now) × (rows.count ≤ max_announcements) }
     ensures { Decides result (RecordsSound (words rows.entry.bytes.now) rows.entry.count (words conns.entry.bytes.now) conns.entry.count (words places.now) p) }
 {
-    if !sound_rows::candidate::rows_fit(rows) {
-        return false;
-    }
-    if !sound_rows::group::groups_fit(rows, MAX_ALTERNATES) {
+    if !sound_rows::group::rows_fit(rows, MAX_ALTERNATES) {
         return false;
     }
     if !sound_conns::conns_fit(rows, conns) {

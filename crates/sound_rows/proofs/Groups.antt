@@ -9,6 +9,7 @@ use lib.Dec.{ltb, eqb}
 use lib.ListN.{drop, get_or}
 use lib.Seq.{drop-drop}
 use borrow.Author.Tests.{ltb-true, ltb-false, eqb-true, eqb-false, eq-eqb, ne_eqb}
+use Rattle.ident.specs.declared.Kind.{Kind}
 use Rattle.words.specs.Words.{recs}
 use Rattle.words.proofs.Records.{recs-add, recs_at}
 use Rattle.regions.specs.declared.Row.{Row}
@@ -136,8 +137,9 @@ module _ (w : List ℕ) (from i to h r : ℕ) (o : from ≤ i) (l : Level w from
   run_back = in_each w (λ r. hash_at r ≡ h → ⊥) (to - r) r to (omega (arith, v.most)) (λ k a b e. omega (arith, v.past (omega arith), l r k (omega (arith, v.least)) a b))
 
 -- the walk ends where the rows of its hash do, if their hashes do not fall and the first is not below it
-pub walked_run : {w t t' : List ℕ} {i to h v : ℕ} {r : Found} (from : ℕ) → from ≤ i → Level w from to → (i < to → h ≤ hash_at (row_at w i)) → Walked w i to h v t t' r → Run w i to h r.to
-walked_run {w} {i = i} {to = to} {h = h} {r = r} from o l f v = record {
+pub walked_run : {kind : Kind} {w t t' : List ℕ} {i to h v : ℕ} {r : Found} (from : ℕ) → from ≤ i → Level w from to → (i < to → h ≤ hash_at (row_at w i)) → Walked kind w i to h v t t' r
+    → Run w i to h r.to
+walked_run {w = w} {i = i} {to = to} {h = h} {r = r} from o l f v = record {
   least = v.least;
   most = v.most;
   upto = λ k a b. omega (arith, v.same k a b);

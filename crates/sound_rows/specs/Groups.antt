@@ -1,10 +1,13 @@
 -- What the test of the rows of one hash decides, in the words of FlatSound, and what its parts decide.
 use Rattle.std.specs.Prelude.{ℕ, ◌+◌, ◌-◌, ◌*◌, ◌%◌, ◌≤◌, ◌<◌, ◌≡◌, ◌⊎◌, true, ◌&&◌, List, [], ◌∷◌, eqb, length, take, drop, get_or}
-use Rattle.words.specs.Words.{recs}
+use Rattle.ident.specs.declared.Kind.{Kind}
+use Rattle.ident.specs.Number.{kind_is}
+use Rattle.words.specs.Words.{recs, Decides}
 use Rattle.regions.specs.declared.Row.{Row}
 use Rattle.sound_rows.specs.declared.group.Found.{Found}
 use Rattle.regions.specs.Rows.{row_size, read_row}
-use Rattle.store.specs.FlatSound.{count_rows, hash_at, owns}
+use Rattle.store.specs.FlatSound.{RowFits, count_rows, hash_at, mark_bit, owns}
+use Rattle.sound_rows.specs.Rows.{mark_for}
 
 -- at most `most` rows of a hash, no connection twice, one owner at most
 pub record GroupsSound (most : ℕ) (rs : List Row) : Type 0 where
@@ -67,8 +70,22 @@ Distinct a b = (n : ℕ) → rows_by n a + rows_by n b ≤ 1
 abbrev pub Marking : List ℕ → ℕ → ℕ → ℕ → List ℕ → List ℕ → Type 0
 Marking w from to v t t' = (others : List Row) → ConnsMarked v t others → Distinct others [] → Distinct others (rows_in w from to) × ConnsMarked v t' (rows_in w from to)
 
+-- r is fit, of the kind, and has the mark of the request that f is a row of
+pub record RowIn (k : Kind) (f r : Row) : Type 0 where
+  pub fit : RowFits r
+  pub kind : kind_is (r.bits % 2) ≡ k
+  pub mark : mark_bit r ≡ mark_for k f
+
+abbrev pub Alike : Kind → List ℕ → ℕ → ℕ → Type 0
+Alike kind w from i = (k : ℕ) → from ≤ k → k < i → RowIn kind (row_at w from) (row_at w k)
+
+-- the rows from .. e of a half that ends at `to` are fit, and the next has a higher hash than h
+pub record Fitting (kind : Kind) (w : List ℕ) (from to h e : ℕ) : Type 0 where
+  pub rows : Alike kind w from e
+  pub rising : e < to → h < hash_at (row_at w e)
+
 -- what a walk from the row `from` along those of the hash h has found
-pub record Walked (w : List ℕ) (from to h v : ℕ) (t t' : List ℕ) (r : Found) : Type 0 where
+pub record Walked (kind : Kind) (w : List ℕ) (from to h v : ℕ) (t t' : List ℕ) (r : Found) : Type 0 where
   pub least : from ≤ r.to
   pub most : r.to ≤ to
   pub same : (k : ℕ) → from ≤ k → k < r.to → hash_at (row_at w k) ≡ h
@@ -76,6 +93,7 @@ pub record Walked (w : List ℕ) (from to h v : ℕ) (t t' : List ℕ) (r : Foun
   pub owners : r.owners ≡ count_rows owns (rows_in w from r.to)
   pub few : r.owners ≤ r.to - from
   pub once : r.once ≡ true → Marking w from r.to v t t'
+  pub fit : Decides r.fit (Fitting kind w from to h r.to)
 
 pub record GroupFits (most : ℕ) (a b : List Row) : Type 0 where
   pub few : length a + length b ≤ most

@@ -1,13 +1,15 @@
-// The test of the rows of one hash over both kinds: few, no connection twice, one owner at most.
+// The test of the rows, those of one hash over both kinds after the other: each fit, in the order of keys, one mark for each request; few of a hash, no connection twice, one owner at most.
 ghost use Rattle.std.specs.Prelude.{◌≡◌, ◌+◌, ◌≤◌, ◌<◌, true};
 ghost use Rattle.words.specs.Words.{words, recs, Decides};
 ghost use Rattle.regions.specs.Rows.{row_size, read_row, quad_number};
 ghost use Rattle.store.specs.FlatSound.{count_rows, hash_at, owns};
-ghost use Rattle.sound_rows.specs.Rows.{RowsSound};
+ghost use Rattle.sound_rows.specs.Rows.{RowsSound, MarkFits, mark_for};
 ghost use Rattle.sound_rows.specs.Parts.{rows_of};
 ghost use Rattle.sound_rows.specs.Groups.{row_at, Least, Run, Apart, Once, Distinct, Walked, GroupFits, GroupsSound};
 
+use crate::candidate;
 use crate::part::Part;
+use ident::Kind;
 use regions::listed::Records;
 use regions::{Key, Quad, Row};
 use std::ops::Bound;
@@ -51,8 +53,7 @@ fn least_hash(rows: Records<Row>, i: usize, m: usize, j: usize) -> Quad
     x
 }
 
-// The first of the rows whose hash is above h, or the part's end. (A loop: tried as `find`, with `owners` below as `filter` and `count`, the sound test of 100,000 rows took
-// 3.04 ms in place of 2.79.)
+// The first of the rows whose hash is above h, or the part's end.
 pub fn run_end(part: Part, h: Quad) -> usize
     ensures { Run (words part.entry.rows.bytes.now) part.entry.from part.entry.to (quad_number h) result }
 {
@@ -82,7 +83,7 @@ fn apart(mine: Part, others: Part) -> bool
     true
 }
 
-// How many of the rows own their request. (A plain sum of bits: see `run_end`.)
+// How many of the rows own their request.
 pub fn owners(part: Part) -> u64
     ensures { (result ≡ count_rows owns (rows_of part.entry)) × (result ≤ part.entry.to) }
 {
@@ -94,31 +95,46 @@ pub fn owners(part: Part) -> u64
     sum
 }
 
-// What a walk along the rows of one hash has found: where they end, how many own their request, and whether marks show that no connection is in two of them, nor in a row that was
-// marked before. (They do not always where it is so.)
+// What a walk along the rows of one hash has found: where they end, how many own their request, whether marks show that no connection is in two of them, nor in a row that was
+// marked before (they do not always where it is so), and whether each is fit, all have one mark, and the row behind them has a higher hash.
 #[derive(Clone, Copy)]
 struct Found {
     to: usize,
     owners: u64,
     once: bool,
+    fit: bool,
 }
 
-// Walks along the rows of the hash h, with which the part begins, and marks the slots of their connections. (A loop: each turn changes the slots that the next one reads. Where
-// the rows of a hash end cannot be foretold: one loop, where one each for the end, the marks and the owners took 10,000 rows 120 µs in place of 80.
+// The mark that the rows at the front of a part should have, if there are any.
+fn mark_at(part: Part, kind: Kind) -> u64
+    ensures { MarkFits kind result × (part.entry.from < part.entry.to → result ≡ mark_for kind (row_at (words part.entry.rows.bytes.now) part.entry.from)) }
+{
+    if part.from == part.to {
+        return 0;
+    }
+    candidate::mark_of(part.rows.get(part.from), kind)
+}
+
+// Walks along the rows of the hash h, with which the part of a half may begin, and marks the slots of their connections. (A loop: each turn changes the slots that the next one reads. One for all
+// that is asked of the rows, since where those of a hash end cannot be foretold, and each loop would guess it anew.
 // Slots and mark go apart: the mark is new for each hash, the slots are one array for all.)
 #[inline(always)]
-fn walk(part: Part, h: Quad, slots: &mut [u64; SLOTS], mark: u64) -> Found
-    ensures { Walked (words part.entry.rows.bytes.now) part.entry.from part.entry.to (quad_number h) mark slots.old slots.new result }
+fn walk(part: Part, h: Quad, kind: Kind, slots: &mut [u64; SLOTS], mark: u64) -> Found
+    ensures { Walked kind (words part.entry.rows.bytes.now) part.entry.from part.entry.to (quad_number h) mark slots.old slots.new result }
 {
+    let fallback = mark_at(part, kind);
     let mut owners = 0;
     let mut once = true;
+    let mut fit = true;
     for i in part.from..part.to {
         let r = part.rows.get(i);
         if !same_hash(r.hash, h) {
+            let rises = regions::quad_less(h, r.hash);
             return Found {
                 to: i,
                 owners,
                 once,
+                fit: fit & rises,
             };
         }
         let x = r.conn as usize % SLOTS;
@@ -126,11 +142,13 @@ fn walk(part: Part, h: Quad, slots: &mut [u64; SLOTS], mark: u64) -> Found
         once = once & !met;
         slots[x] = mark;
         owners += u64::from(r.owns());
+        fit = fit & candidate::row_fits(r, kind, fallback);
     }
     Found {
         to: part.to,
         owners,
         once,
+        fit,
     }
 }
 
@@ -164,14 +182,15 @@ fn group_fits(a: Part, b: Part, most: usize, owned: u64, once: bool) -> bool
     conns_once(a, b)
 }
 
-// Whether each hash has at most `most` rows over both kinds, no connection twice, and one owner at most. Takes the rows of one hash after the
-// other from both halves of the rows, Txid and Wtxid.
-pub fn groups_fit(rows: Records<Row>, most: usize) -> bool
-    ensures { RowsSound (recs row_size read_row rows.entry.count (words rows.entry.bytes.now))
-        → Decides result (GroupsSound most (recs row_size read_row rows.entry.count (words rows.entry.bytes.now))) }
+// Whether each row is fit, keys do not fall and rows of one key have one mark; and each hash has at most `most` rows over both kinds, no connection twice, and one owner at most.
+// Takes the rows of one hash after the other from both halves of the rows, Txid and Wtxid. (In rows that are not in order the halves may part anywhere: a row of the other
+// kind is not fit.)
+pub fn rows_fit(rows: Records<Row>, most: usize) -> bool
+    ensures { Decides result (RowsSound (recs row_size read_row rows.entry.count (words rows.entry.bytes.now))
+        × GroupsSound most (recs row_size read_row rows.entry.count (words rows.entry.bytes.now))) }
 {
     let first = Key {
-        kind: ident::Kind::Wtxid,
+        kind: Kind::Wtxid,
         hash: Quad::ZERO,
     };
     let n = rows.count;
@@ -183,8 +202,14 @@ pub fn groups_fit(rows: Records<Row>, most: usize) -> bool
     while i + j < m + n {
         let h = least_hash(rows, i, m, j);
         let mark = (i + j + 1) as u64;
-        let a = walk(Part::new(rows, i, m), h, &mut slots, mark);
-        let b = walk(Part::new(rows, j, n), h, &mut slots, mark);
+        let a = walk(Part::new(rows, i, m), h, Kind::Txid, &mut slots, mark);
+        let b = walk(Part::new(rows, j, n), h, Kind::Wtxid, &mut slots, mark);
+        if !a.fit {
+            return false;
+        }
+        if !b.fit {
+            return false;
+        }
         let txid = Part::new(rows, i, a.to);
         let wtxid = Part::new(rows, j, b.to);
         if !group_fits(txid, wtxid, most, a.owners + b.owners, a.once & b.once) {

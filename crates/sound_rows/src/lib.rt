@@ -2,6 +2,6 @@
 // That these rows lie within the slice is a fact of `Records`.
 #![tactic(auto)]
 
-pub mod candidate; // candidate.rt: rows by themselves and neighbours
-pub mod group; // group.rt: rows of one hash over both kinds
+pub mod candidate; // candidate.rt: a row by itself
+pub mod group; // group.rt: rows of one hash over both kinds, and the whole
 pub mod part; // part.rt: rows one behind the other

@@ -4,11 +4,11 @@ use Rattle.sound.proofs.records_fit.Goals as goal
 
 pub returns : goal.returns
 returns c =
-    let rows = c.if-not-rows_fit.ensures in
+    let rows = c.if-not-rows_fit.ensures.0 in
     decides_iff c.is_zero-3.result (record {
       to = λ z. record {
         rows = rows;
-        groups = c.if-not-groups_fit.ensures rows;
+        groups = c.if-not-rows_fit.ensures.1;
         conns = c.if-not-conns_fit.ensures rows;
         places = c.if-not-places_fit.ensures rows;
         rows-zero = rw (length-words c.args.rows.bytes.now) c.if-not-is_zero.ensures;

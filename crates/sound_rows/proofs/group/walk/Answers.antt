@@ -15,6 +15,8 @@ use Rattle.store.specs.FlatSound.{hash_at, owns}
 use Rattle.store.proofs.Certify.{own-bit}
 use Rattle.sound_rows.specs.Groups.{row_at}
 use Rattle.sound_rows.proofs.Groups.{one_more, owners_none}
+use Rattle.sound_rows.proofs.Fitting.{alike_turn, fitting_met, fitting_end}
+use Rattle.sound_rows.proofs.Ranges.{row-typed}
 use Rattle.sound_rows.proofs.ConnMarks.{marks_none, marks_turn}
 use Rattle.sound_rows.proofs.group.walk.Goals as goal
 
@@ -30,6 +32,7 @@ loop-i-init c =
       owners = sym (owners_none w c.args.part.from c.args.part.from (omega arith));
       few = omega arith;
       once = λ _. marks_none w c.args.part.from c.args.mark c.args.slots.now;
+      fit = λ k a b. absurd (omega arith);
     }
 
 pub loop-i-preserved : goal.loop-i-preserved
@@ -52,6 +55,7 @@ loop-i-preserved c =
       few = omega (arith, v.few);
       once = λ o. marks_turn w from l.i c.args.mark c.args.slots.now l.slots r c.loop-i.auto.i e refl (omega arith)
           (unmet _ _ (and_right l.once _ o)) (v.once (and_left l.once _ o));
+      fit = alike_turn c.args.kind w from l.i c.loop-i.auto.i l.fit c.row_fits-fit.result e (row-typed r c.get-r.type_inv) (c.mark_at-fallback.ensures.1 (omega arith)) v.fit c.row_fits-fit.ensures;
     }
 
 pub returns-then-not-same_hash : goal.returns-then-not-same_hash
@@ -65,6 +69,9 @@ returns-then-not-same_hash c =
       owners = v.owners;
       few = v.few;
       once = λ o others m d. let a = v.once o others m d in (a.0, a.2);
+      fit = fitting_met c.args.kind (words c.args.part.rows.bytes.now) c.args.part.from c.loop-i.i c.loop-i.auto.i
+          c.args.part.to (quad_number c.args.h) c.loop-i.fit c.quad_less-rises.result (omega arith)
+          (rw c.get-r.ensures.words_are at c.quad_less-rises.ensures) v.fit;
     }
 
 pub returns : goal.returns
@@ -79,4 +86,5 @@ returns c =
       owners = rw e at v.owners;
       few = omega (arith, v.few);
       once = λ o others m d. let a = v.once o others m d in (rw e at a.0, rw e at a.2);
+      fit = fitting_end c.args.kind (words c.args.part.rows.bytes.now) c.args.part.from c.args.part.to (omega arith) (quad_number c.args.h) c.loop-i.fit (rw e at v.fit);
     }
