@@ -138,7 +138,8 @@ module _ {b w : List ℕ} {d c : ℕ} {spent : Bool} {n now h i : ℕ} where
             } in
             record {
               reply = ap (λ (o : Answer). o.reply) e;
-              pending = subst (λ (o : Table). Pending b w' d' c st o) (sym (ap (λ (o : Answer). o.table) e)) (subst (λ (o : ℕ). Pending b w' o c st (marks (keys_of (es ++ (k ∷ []))) (pushes (es ++ (k ∷ [])) u))) (sym q) there);
+              pending = subst (λ (o : Table). Pending b w' d' c st o) (sym (ap (λ (o : Answer). o.table) e))
+                  (subst (λ (o : ℕ). Pending b w' o c st (marks (keys_of (es ++ (k ∷ []))) (pushes (es ++ (k ∷ [])) u))) (sym q) there);
             };
         refused = λ e. cc;
         alone = λ e. cc;
