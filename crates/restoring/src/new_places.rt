@@ -1,5 +1,5 @@
 // The place of a request: flag or package, and its lists, from the request's line.
-ghost use Rattle.std.specs.Prelude.{◌≡◌, ℕ, ◌≤◌, ◌<◌, List, ◌++◌, length, Some};
+ghost use Rattle.std.specs.Prelude.{true, ◌≡◌, ℕ, ◌≤◌, ◌<◌, List, ◌++◌, length, Some};
 ghost use Rattle.lent_lists.specs.Lists.{hashes_in};
 ghost use Rattle.regions.specs.Rows.{quad_number};
 ghost use Rattle.places.specs.Places.{list_most};

@@ -42,7 +42,7 @@ fn poll_fits(tag: u64, time: u64) -> bool
     tag == 1
 }
 
-#[tactic(auto, using(crate::proofs::Hashes::zero_number))]
+#[tactic(auto, using(regions::proofs::Order::zero_number))]
 fn cursor_fits(tag: u64, hash: regions::Quad) -> bool
     ensures { Decides result (CursorPlain tag (quad_number hash)) }
 {

@@ -79,7 +79,7 @@ fn distinct(s: &[u8], a: usize, n: usize, slots: &mut [u16; SLOTS], mark: u16) -
 }
 
 // Whether stage, combined hash and number of wtxids go together. (The stage as a number: the bytes may hold any.)
-#[tactic(auto, using(crate::proofs::Stage::staged, crate::proofs::Hashes::zero_number))]
+#[tactic(auto, using(crate::proofs::Stage::staged, regions::proofs::Order::zero_number))]
 fn stage_fits(stage: u64, combined: regions::Quad, n: u64) -> bool
     ensures { Decides result (StagePlain stage (quad_number combined) n) }
 {
