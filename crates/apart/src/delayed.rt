@@ -5,7 +5,6 @@ ghost use Rattle.ident.specs.Words.{hash_num, key_num};
 ghost use Rattle.words.specs.Words.{words};
 ghost use Rattle.store.specs.Shown.{Kept};
 ghost use Rattle.parenting.specs.Displacing.{reserve_of};
-ghost use Rattle.postponing.specs.Pending.{Pends, Among};
 ghost use Rattle.apart.specs.Delayed.{delay_of, Starts, Ends, Lowest, PendsIf, FailsIn, Fails, Opens, Closes, OneIn, BesideIn};
 
 use gathering::region;
@@ -14,7 +13,7 @@ use parenting::displacing;
 use parenting::displacing::Known;
 use parenting::parent::Parent;
 use postponing::among::Reply;
-use postponing::{lapsing, later, settling};
+use postponing::{among, lapsing, later, settling};
 
 // What waits: parents to come in, and how many owners are to go.
 #[derive(Drop)]
@@ -25,14 +24,6 @@ pub struct Delayed {
     pub later: bool,
     // Whether the parents that are announced now are announced by themselves.
     pub alone: bool,
-}
-
-// STUB
-fn announce_among(s: &mut [u8], new: &mut Waiting, c: usize, spent: bool, p: Parent) -> Reply
-    requires { Pends s.old (words new.old.bytes) new.old.count c }
-    ensures { Among p.connection.number p.clock (hash_num p.hash) p.priority s.old s.new (words new.old.bytes) (words new.new.bytes) new.old.count new.new.count c spent result }
-{
-    Reply::Alone
 }
 
 impl Delayed {
@@ -80,7 +71,7 @@ impl Delayed {
         if self.alone {
             return None;
         }
-        match announce_among(s, &mut self.rows, self.gone, spent, p) {
+        match among::announce_among(s, &mut self.rows, self.gone, spent, p) {
             Reply::Kept => Some(true),
             Reply::Refused => Some(false),
             Reply::Alone => {

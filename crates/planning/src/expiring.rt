@@ -54,7 +54,8 @@ fn next_due(s: &[u8], low: u64, clock: u64, last: Option<ident::Key>) -> Option<
 // Every owner whose time is over fails, in key order, and its parents are announced for it. The rows stay until many have failed and many parents wait: then those go
 // and these come in together. Where nobody can be evicted any more no later parent looks for a victim. The c places of the store are set apart; the
 // parents kept are noted at their place. Answers how many places at most have notes. (The store, m, the first place and the count travel together as in crates/apart, and are
-// no struct for its reason: apart::slots.)
+// no struct for its reason: apart::slots. By itself: inlined, the rows that wait would stand on the stack beside what the test of the bytes goes by.)
+#[inline(never)]
 pub fn expire(s: &mut [u8], m: usize, first: &mut [u8; SLOT], c: usize, clock: u64) -> usize
     requires { Rested s.old first.old m c }
     ensures { ExpiresAll s.old s.new first.old first.new m c clock result }

@@ -9,8 +9,8 @@ use Rattle.apart.proofs.OneOwner.{front_kept}
 use Rattle.planning.proofs.AllExpired.{place-small, way-starts, way-kept, way-pends, way-expiring, way-peer, way_goes, way-ends}
 use Rattle.planning.proofs.expiring.expire.Goals as goal
 
-pub start-requires : goal.start-requires
-start-requires c = front_kept c.requires.apart
+pub start-delayed-requires : goal.start-delayed-requires
+start-delayed-requires c = front_kept c.requires.apart
 
 pub loop-due-init : goal.loop-due-init
 loop-due-init c = (refl, omega arith, omega arith, way-starts c.args.clock _ (omega arith) c.start-delayed.ensures _ refl)
