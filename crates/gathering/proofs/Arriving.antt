@@ -42,7 +42,11 @@ not_counted : {b : List ℕ} (f : Flat) (ys : List Row) → f.conns ≡ tally f.
 not_counted {b} f ys e h =
     subst (λ (cs : List Conn). Shows b (with_conns cs (with_rows (merged f.rows ys) f))) (e ∙ ap tally (sym (merged_none f.rows))) h
 
-module _ {b w : List ℕ} {n m : ℕ} (g : Gathers b n w m) where
+-- those of one connection are some of any
+pub of_one : {b w : List ℕ} {n m : ℕ} → Gathers b n w m → GathersAll b w m
+of_one g = record { state = g.state; sound = g.sound; writes = g.writes; entries = g.entries; mixed = g.aside.mixed; room = g.room }
+
+module _ {b w : List ℕ} {m : ℕ} (g : GathersAll b w m) where
   pub room_for : Shown b × (rows_in b + m ≤ limit_in b)
   room_for =
       let z = sizes g.writes in
@@ -51,11 +55,11 @@ module _ {b w : List ℕ} {n m : ℕ} (g : Gathers b n w m) where
   pub with_shown : {b₁ : List ℕ} → RowsAdded b b₁ w m → (m ≡ 0 → ⊥) → Shown b₁ × (conns_in b₁ < limit_in b₁) × (1 ≤ m) × (m ≤ max_announcements)
   with_shown r p =
       let st = g.state in
-      let h = with_rows_lem r st g.sound g.writes g.aside.mixed in
+      let h = with_rows_lem r st g.sound g.writes g.mixed in
       let z = sized_of st g.sound in
       let y = sizes h in
       let n = length_merged (rows_of st.table) (gathered st.table g.entries []) in
-      let l = few_rows g.aside.mixed in
+      let l = few_rows g.mixed in
       let q = held-rows st.table in
       let few : length (rows_of st.table) + m ≤ st.limit = omega (arith, g.room) in (
         shown h (record { limit = z.limit; places = z.places; rows_few = omega arith; conns_few = z.conns_few; places_few = z.places_few }) (light_of st g.sound),
@@ -63,20 +67,6 @@ module _ {b w : List ℕ} {n m : ℕ} (g : Gathers b n w m) where
         omega arith,
         omega (arith, z.limit),
       )
-
-pub arrived : {b b₁ b₂ w : List ℕ} {n m : ℕ} → RowsAdded b b₁ w m → Tallies b₁ b₂ (raise n m) → ComeIn b b₂ n w m
-arrived {b} {b₁} {b₂} {w} {n} {m} r k st s g es a =
-    let t = st.table in
-    let h : Shows b₂ (with_conns (raise n m (tally (rows_of t))) (with_rows (merged (rows_of t) (gathered t es [])) (flat_of st))) = k _ (conns_in_order (rows_of t)) (with_rows_lem r st s g a.mixed) in
-    came_in st s es a.mixed.ready n a.mine a.mixed.idle (subst (λ (d : ℕ). Shows b₂ (with_conns (raise n d (tally (rows_of t))) (with_rows (merged (rows_of t) (gathered t es [])) (flat_of st)))) (sym a.mixed.count) h)
-
--- ---- those of any connections
-
-module _ {b w : List ℕ} {m : ℕ} (g : GathersAll b w m) where
-  pub room_for_all : Shown b × (rows_in b + m ≤ limit_in b)
-  room_for_all =
-      let z = sizes g.writes in
-      (kept_shown (record { state = g.state; sound = g.sound; writes = g.writes }), omega (arith, z.rows, z.limit, held-rows g.state.table, g.room))
 
   pub uncounted : {b₁ : List ℕ} → RowsAdded b b₁ w m → Uncounted b₁ w m
   uncounted {b₁} r =
@@ -93,10 +83,21 @@ module _ {b w : List ℕ} {m : ℕ} (g : GathersAll b w m) where
         shows = not_counted (flat_of g.state) (gathered t g.entries []) refl (with_rows_lem r g.state g.sound g.writes g.mixed);
       }
 
+-- ---- counted once for all of them, or each
+
+-- st with these connections, and rows with those of es
+abbrev Among : State → List Entry → List Conn → Flat
+Among st es cs = with_conns cs (with_rows (merged (rows_of st.table) (gathered st.table es [])) (flat_of st))
+
+pub arrived : {b b₁ b₂ w : List ℕ} {n m : ℕ} → RowsAdded b b₁ w m → Tallies b₁ b₂ (raise n m) → ComeIn b b₂ n w m
+arrived {b} {b₁} {b₂} {w} {n} {m} r k st s g es a =
+    let cs = tally (rows_of st.table) in
+    let h : Shows b₂ (Among st es (raise n m cs)) = k _ (conns_in_order (rows_of st.table)) (with_rows_lem r st s g a.mixed) in
+    came_in st s es a.mixed.ready n a.mine a.mixed.idle (subst (λ (d : ℕ). Shows b₂ (Among st es (raise n d cs))) (sym a.mixed.count) h)
+
 pub all_arrived : {b b₁ b₂ w : List ℕ} {m : ℕ} → RowsAdded b b₁ w m → CountedTo b₁ b₂ w m m → ComeInAll b b₂ w m
 all_arrived {b} {b₁} {b₂} {w} {m} r k st s g es a =
-    let t = st.table in
-    let ys = gathered t es [] in
+    let ys = gathered st.table es [] in
     let l = few_rows a in
-    let h : Shows b₂ (counted (flat_of st) ys m) = k (flat_of st) space ys l (bare-gathered t es a.idle) a.rows (not_counted (flat_of st) ys refl (with_rows_lem r st s g a)) in
-    all_in st s es a.ready (subst (λ (zs : List Row). Shows b₂ (with_conns (tally (merged (rows_of t) zs)) (with_rows (merged (rows_of t) ys) (flat_of st)))) (take_all m ys (omega (arith, l))) h)
+    let h : Shows b₂ (counted (flat_of st) ys m) = k (flat_of st) space ys l (bare-gathered st.table es a.idle) a.rows (not_counted (flat_of st) ys refl (with_rows_lem r st s g a)) in
+    all_in st s es a.ready (subst (λ (zs : List Row). Shows b₂ (Among st es (tally (merged (rows_of st.table) zs)))) (take_all m ys (omega (arith, l))) h)

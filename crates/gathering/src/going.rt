@@ -19,7 +19,7 @@ fn goes(v: regions::Row, r: regions::Row) -> bool
 }
 
 // The i-th row: put behind the m that stay, unless it goes. Answers how many stay. (A step of a pass: no `keep::retain`, since a row that goes is
-// counted off in the same store, which a closure over its bytes cannot change. `apart::silent` has a pass of this shape: on the way the bytes are known
+// counted off in the same store, which a closure over its bytes cannot change. `postponing::silent` has a pass of this shape: on the way the bytes are known
 // to write the rows that are left only for one test, so a function for both would ask for the test as a closure and as a function of the logic, and be longer than both.)
 fn drop_row(s: &mut [u8], m: usize, i: usize, v: regions::Row) -> usize
     requires { Shown s.old × (m ≤ i) × (i < rows_in s.old) }

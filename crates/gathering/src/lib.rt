@@ -1,4 +1,5 @@
-// Candidates of one connection that wait beside the store, to come in together: rows move once, however many come in.
+// Candidates that wait beside the store, to come in together: rows move once, however many come in. They are of one connection, or of several:
+// what has no connection in its contract (`Mixed`) serves both.
 //
 // What only reads those that wait has them as one value (`Records`). Where their region is written it is a slice beside its count (`new` and m or d):
 // a longer one will do too, which an array would not allow, and a struct over `&mut [u8]` would need a clause in each contract that the

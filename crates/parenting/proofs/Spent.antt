@@ -1,5 +1,5 @@
 -- Where no candidate can be evicted: a parent that is announced leaves it so, and with L held it comes in only if its connection has announced it.
-use Prim.Native.Nat.{ℕ, suc, ◌≤◌, ◌<◌}
+use Prim.Native.Nat.{ℕ, suc, ◌+◌, ◌≤◌, ◌<◌}
 use mathlib.Core.Path.{◌≡◌, refl, sym, ap, ◌∙◌}
 use mathlib.Core.Logic.{inl, inr}
 use mathlib.Core.Bool.{Bool, true, false, ◌||◌}
@@ -17,11 +17,15 @@ use Rattle.machine.specs.Table.{at, has, keep, change, any, by, under, by_under,
 use Rattle.machine.specs.Announce.{victims_in, victims, greatest, anywhere, at_hash, evicting, announce_at, adopt, adopted, request_parent_at}
 use Rattle.machine.specs.Fail.{parent_of, mark}
 use Rattle.machine.specs.Sound.{Ordered}
+use Rattle.machine.specs.Typed.{Each}
 use Rattle.machine.proofs.Tests.{test, by_test, or_left, or_right, never}
 use Rattle.requests.proofs.Holding.{either-kind}
 use Rattle.announcing.specs.Answers.{one_parent}
 use Rattle.announcing.proofs.Deciding.{when-barred, when-crowded, when-full, when-room}
 use Rattle.announcing.proofs.Giving.{victims-push}
+use Rattle.gathering.specs.Waits.{pushes, Small, waits}
+use Rattle.gathering.proofs.Elsewhere.{victims-pushes}
+use Rattle.gathering.proofs.Waiting.{held_beside, candidate_beside}
 use Rattle.parenting.specs.Waiting.{marks}
 use Rattle.parenting.specs.Displacing.{Spent}
 use Rattle.parenting.proofs.Marking.{count-marks}
@@ -173,6 +177,16 @@ spent_left m n now h i t low o s new l =
     let neither : (x || y) ≡ false = either-kind n h low t o ∙ new in
     let none : announce_at m (txid h) (parent_of n now h i) t ≡ refused t = spent-refused m (txid h) (parent_of n now h i) t refl s (le-leb m.announcements (held t) l) in
     rw (or_left x y neither, or_right x y neither, none)
+
+-- the same beside those that wait and are preferred, their requests marked: they are counted, and leave nobody to evict
+pub spent_beside : (m : Limits) (n now h i : ℕ) (ks : List Key) (es : List Entry) (t : Table) → h < top → Ordered 0 (marks ks (pushes es t)) → Each Small es
+    → Each (λ (a : Entry). a.candidate.preferred ≡ true) es → Ordered 0 t → Spent t → is_candidate n h t ≡ false → waits h es ≡ false → m.announcements ≤ held t + length es
+    → one_parent m n now h i (marks ks (pushes es t)) ≡ refused (marks ks (pushes es t))
+spent_beside m n now h i ks es t low o a p q s new apart l =
+    let all = pushes es t in
+    spent_left m n now h i (marks ks all) low o (victims-marks anywhere ks all ∙ victims-pushes es t p ∙ s)
+    (ap (ltb 0) (count-marks (by_under n h) ks all) ∙ candidate_beside es t a q h apart n ∙ new)
+    (omega (arith, count-marks any ks all, held_beside es t a q))
 
 -- ---- what is refused is refused where requests are marked
 

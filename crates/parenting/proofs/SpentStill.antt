@@ -25,25 +25,25 @@ use Rattle.parenting.proofs.Spent.{cons-nil, none_left, none_right}
 
 -- ---- request by request
 
-abbrev Quiet : Request → Type 0
+abbrev pub Quiet : Request → Type 0
 Quiet r = victims_in r r.candidates ≡ []
 
-spent_all : (t : Table) → Spent t → All Quiet t
+pub spent_all : (t : Table) → Spent t → All Quiet t
 unfolding victims
 spent_all [] s = tt
 spent_all (r ∷ t) s =
     (none_left (victims_in r r.candidates) (victims anywhere t) s, spent_all t (none_right (victims_in r r.candidates) (victims anywhere t) s))
 
-all_spent : (t : Table) → All Quiet t → Spent t
+pub all_spent : (t : Table) → All Quiet t → Spent t
 unfolding victims
 all_spent [] a = refl
 all_spent (r ∷ t) a = ap (λ (l : List Entry). l ++ victims anywhere t) a.0 ∙ all_spent t a.1
 
 -- a candidate is preferred, or owns the request
-abbrev Stays : Option Owner → Candidate → Type 0
+abbrev pub Stays : Option Owner → Candidate → Type 0
 Stays o c = (c.preferred || owner_is c.connection o) ≡ true
 
-each_stays : (r : Request) (cs : List Candidate) → victims_in r cs ≡ [] → Each (Stays r.owner) cs
+pub each_stays : (r : Request) (cs : List Candidate) → victims_in r cs ≡ [] → Each (Stays r.owner) cs
 unfolding victims_in
 each_stays r [] e = tt
 each_stays r (c ∷ cs) e =
@@ -52,7 +52,7 @@ each_stays r (c ∷ cs) e =
       | inr h ↦ absurd (cons-nil (record { key = r.key; candidate = c }) (victims_in r cs) (rw h at e))
     ]
 
-stays_none : (r : Request) (cs : List Candidate) → Each (Stays r.owner) cs → victims_in r cs ≡ []
+pub stays_none : (r : Request) (cs : List Candidate) → Each (Stays r.owner) cs → victims_in r cs ≡ []
 unfolding victims_in
 stays_none r [] a = refl
 stays_none r (c ∷ cs) a = rw a.0 (stays_none r cs a.1)
@@ -89,7 +89,7 @@ module _ (n now : ℕ) where
         | inr e ↦ (freed o c own e a.0, all_freed o cs own a.1 (omega (arith, ap one e, k)))
       ]
 
-  once_freed : (o : Option Owner) (cs : List Candidate) → owner_is n o ≡ true → Each (Stays o) cs → count_in (λ x. eqb x n) cs ≤ 1 → Each (Stays none) (map (ready_at now) (without n cs))
+  pub once_freed : (o : Option Owner) (cs : List Candidate) → owner_is n o ≡ true → Each (Stays o) cs → count_in (λ x. eqb x n) cs ≤ 1 → Each (Stays none) (map (ready_at now) (without n cs))
   unfolding without count_in
   once_freed o [] own a k = tt
   once_freed o (c ∷ cs) own a k =

@@ -20,12 +20,12 @@ use Rattle.parenting.specs.Waiting.{marks, keys_of, Beside, LetIn}
 use Rattle.parenting.specs.Displacing.{Spent, Reserve, unlisted, Supplied, Settled, Finished}
 
 -- with no entries
-apart_none : (es : List Entry) {t u : Table} → length es ≡ 0 → t ≡ marks (keys_of es) (pushes es u) → t ≡ u
+pub apart_none : (es : List Entry) {t u : Table} → length es ≡ 0 → t ≡ marks (keys_of es) (pushes es u) → t ≡ u
 unfolding marks pushes
 apart_none [] e q = q
 apart_none (a ∷ l) e q = absurd (omega (arith, e))
 
-empty_none : (es : List Entry) (t : Table) {w : List ℕ} → length es ≡ 0 → Holds row_size row_words space (gathered t es []) w → Empty w
+pub empty_none : (es : List Entry) (t : Table) {w : List ℕ} → length es ≡ 0 → Holds row_size row_words space (gathered t es []) w → Empty w
 unfolding gathered
 empty_none [] t e h = h
 empty_none (a ∷ l) t e h = absurd (omega (arith, e))

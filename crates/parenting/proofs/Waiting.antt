@@ -34,7 +34,7 @@ use Rattle.gathering.specs.declared.beside.Fare.TheVariants.{Nothing, Waits as W
 use Rattle.gathering.specs.contracts.beside.FarePartialEq.TheImpl.{eq-value}
 use Rattle.gathering.specs.Counted.{then_wait}
 use Rattle.gathering.specs.Merges.{gathered}
-use Rattle.gathering.specs.Waits.{pushes, waits}
+use Rattle.gathering.specs.Waits.{pushes}
 use Rattle.gathering.specs.Aside.{space, Empty, Aside, Joined, Enters, SetAside, ComeIn}
 use Rattle.gathering.proofs.ComingIn.{length-gathered}
 use Rattle.gathering.proofs.OneMore.{each_more}
@@ -160,7 +160,7 @@ module _ {n now h i : ℕ} {b w : List ℕ} {d : ℕ} {st : State} {t : Table} (
 
 -- ---- one announced where none waits
 
-bounded_one : {m : Limits} {Q : ℕ} {t : Table} (n now h i : ℕ) → Peer n → now < word → i < word → h < top → Bounded m Q t → Bounded m Q (one_parent m n now h i t).table
+pub bounded_one : {m : Limits} {Q : ℕ} {t : Table} (n now h i : ℕ) → Peer n → now < word → i < word → h < top → Bounded m Q t → Bounded m Q (one_parent m n now h i t).table
 bounded_one {m} {Q} {t} n now h i p w v s b =
     let x = request_parent_at m (txid h) (parent_of n now h i) t in
     let b' = bounded-parent_at (txid h) (parent_of n now h i) s (record { item = refl; positive = p.positive; connection = p.small; ready = w; priority = v }) b in

@@ -12,7 +12,7 @@ use Rattle.ident.specs.Number.{Key, top, place, other, txid, wtxid}
 use Rattle.ident.proofs.Places.{place_same as place-inj}
 use Rattle.machine.specs.Limits.{max_announcements, word}
 use Rattle.machine.specs.State.{Candidate, Entry, Request, Table, State, on_table, owner_is}
-use Rattle.machine.specs.Table.{at, change, has, any, count_in, count, held}
+use Rattle.machine.specs.Table.{at, change, has, any, count_in, held}
 use Rattle.machine.specs.Announce.{without}
 use Rattle.machine.specs.Fail.{releasable, left, leaves, failed}
 use Rattle.machine.specs.Sound.{Ordered, All, Filled, Sound, Bounded}

@@ -10,3 +10,6 @@ pub mod LapsedOwner
 pub mod LapsedSteps
 pub mod LapsedRows
 pub mod Opening
+pub mod Adopting
+pub mod Considering
+pub mod Leftover

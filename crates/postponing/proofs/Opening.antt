@@ -6,15 +6,14 @@ use mathlib.Core.Bool.{Bool, true, false, ◌||◌}
 use mathlib.Core.List.{List, [], ◌∷◌, ◌++◌}
 use native.Mathlib.Omega.{arith}
 use lib.Dec.{ltb, leb, eqb}
-use lib.ListN.{length}
 use borrow.Author.Tests.{le-leb, eqb-true, eq-eqb}
 use Rattle.ident.specs.declared.Kind.{Kind}
 use Rattle.ident.specs.declared.Kind.TheVariants.{Txid, Wtxid}
 use Rattle.ident.specs.Number.{top, Key, txid, wtxid}
 use Rattle.machine.specs.Limits.{Limits, max_peer_announcements}
-use Rattle.machine.specs.State.{Candidate, Entry, Request, Table, State, Answer, limits_of, refused, blank}
+use Rattle.machine.specs.State.{Candidate, Entry, Request, Table, State, limits_of, refused}
 use Rattle.machine.specs.Table.{at, has, any, by, under, by_under, count, held, held_by, held_at, is_candidate}
-use Rattle.machine.specs.Announce.{victims_in, victims, greatest, at_hash, evicting, announce_at, request_parent_at}
+use Rattle.machine.specs.Announce.{victims_in, victims, at_hash, announce_at, request_parent_at}
 use Rattle.machine.specs.Fail.{parent_of}
 use Rattle.machine.specs.Sound.{Ordered, All, Filled}
 use Rattle.machine.proofs.Table.{all_at, at_key}
@@ -25,12 +24,12 @@ use Rattle.announcing.proofs.Deciding.{when-barred, when-crowded}
 use Rattle.gathering.specs.Waits.{pushes, waits, Admits}
 use Rattle.gathering.proofs.Waiting.{held_beside, at_beside, candidate_beside}
 use Rattle.gathering.proofs.Elsewhere.{at_pushes}
-use Rattle.parenting.specs.Waiting.{marks, keys_of}
+use Rattle.parenting.specs.Waiting.{keys_of}
 use Rattle.parenting.specs.Displacing.{Spent}
 use Rattle.parenting.proofs.Marking.{at_marks, count-marks, entries-else}
 use Rattle.parenting.proofs.Spent.{none_left, none_right, evicting_none, spent_left}
 use Rattle.postponing.specs.Silent.{dropped_all}
-use Rattle.postponing.specs.Pending.{Living, Pending, OpenTo}
+use Rattle.postponing.specs.Pending.{Pending, Open}
 use Rattle.postponing.proofs.DroppedCounts.{fewer_dropped, txid_stays, wtxid_stays, held_stays, candidate_stays}
 use Rattle.postponing.proofs.Starting.{each_at, pending_sound}
 
@@ -81,7 +80,7 @@ none_at h s t t' o o' a b e =
 
 -- ---- at an open hash
 
-module _ {b w : List ℕ} {d c : ℕ} {st : State} {t : Table} (v : Pending b w d c st t) (n h : ℕ) (s : h < top) (x : OpenTo n h v) where
+module _ {b w : List ℕ} {d c : ℕ} {st : State} {t : Table} (v : Pending b w d c st t) (h : ℕ) (s : h < top) (x : Open h v) where
   abbrev es : List Entry
   es = v.entries
 
@@ -111,50 +110,51 @@ module _ {b w : List ℕ} {d c : ℕ} {st : State} {t : Table} (v : Pending b w 
   held_all : held t ≡ held u + d
   held_all = omega (arith, count_all any, held_beside es u v.mixed.ready ordered, v.mixed.count)
 
-  new_left : is_candidate n h u ≡ false
-  new_left = candidate_stays v.base v.sound.bounded.ordered filled h s x.living n ∙ x.new
-
-  new_all : is_candidate n h t ≡ false
-  new_all = ap (ltb 0) (count_all (by_under n h)) ∙ candidate_beside es u v.mixed.ready ordered h x.apart n ∙ new_left
-
   crowd_all : held_at h t ≡ held_at h v.base
   crowd_all =
       count_all (under h) ∙ at_beside es u v.mixed.ready ordered h x.apart ∙ held_stays v.base v.sound.bounded.ordered filled h s x.living
 
-  module _ (now i : ℕ) where
-    abbrev m : Limits
-    m = limits_of st
+  module _ (n : ℕ) (new : is_candidate n h v.base ≡ false) where
+    new_left : is_candidate n h u ≡ false
+    new_left = candidate_stays v.base v.sound.bounded.ordered filled h s x.living n ∙ new
 
-    abbrev offered : Candidate
-    offered = parent_of n now h i
+    new_all : is_candidate n h t ≡ false
+    new_all = ap (ltb 0) (count_all (by_under n h)) ∙ candidate_beside es u v.mixed.ready ordered h x.apart n ∙ new_left
 
-    pub open_admits : held v.base + d < st.limit + c → held_at h v.base < m.alternates → held_by n v.base + d < max_peer_announcements → Admits m u es (txid h) offered
-    open_admits room spare few = record {
-      new = new_left;
-      apart = x.apart;
-      few = omega (arith, fewer_dropped 0 (by n) v.base, v.mixed.count, few);
-      spare = omega (arith, held_stays v.base v.sound.bounded.ordered filled h s x.living, spare);
-      room = omega (arith, v.count, v.mixed.count, room);
-    }
+    module _ (now i : ℕ) where
+      abbrev m : Limits
+      m = limits_of st
 
-    -- L are held, and nobody can be evicted
-    pub open_spent : st.limit + c ≤ held v.base + d → Spent t → one_parent m n now h i t ≡ refused t
-    open_spent full e = spent_left m n now h i t s (pending_sound v).bounded.ordered e new_all (omega (arith, v.count, held_all, full))
+      abbrev offered : Candidate
+      offered = parent_of n now h i
 
-    crowded_out : m.alternates ≤ held_at h v.base → victims (at_hash h) v.base ≡ [] → announce_at m (txid h) offered t ≡ refused t
-    crowded_out l e =
-        let none = none_at h s v.base t v.sound.bounded.ordered (pending_sound v).bounded.ordered txid_same wtxid_same e in
-        elim (test (is_candidate n h t || leb max_peer_announcements (held_by n t))) [
-          | inl y ↦ when-barred m (txid h) offered t y
-          | inr y ↦ when-crowded m (txid h) offered t y (le-leb m.alternates (held_at h t) (omega (arith, crowd_all, l))) refl ∙ evicting_none (txid h) offered t (victims (at_hash h) t) none
-        ]
+      pub open_admits : held v.base + d < st.limit + c → held_at h v.base < m.alternates → held_by n v.base + d < max_peer_announcements → Admits m u es (txid h) offered
+      open_admits room spare few = record {
+        new = new_left;
+        apart = x.apart;
+        few = omega (arith, fewer_dropped 0 (by n) v.base, v.mixed.count, few);
+        spare = omega (arith, held_stays v.base v.sound.bounded.ordered filled h s x.living, spare);
+        room = omega (arith, v.count, v.mixed.count, room);
+      }
 
-    -- there are as many at the hash as may be, of whom none can be evicted
-    pub open_crowded : m.alternates ≤ held_at h v.base → victims (at_hash h) v.base ≡ [] → one_parent m n now h i t ≡ refused t
-    unfolding request_parent_at
-    open_crowded l e =
-        let a = has n (at (txid h) t).candidates in
-        let b = has n (at (wtxid h) t).candidates in
-        let neither : (a || b) ≡ false = either-kind n h s t (pending_sound v).bounded.ordered ∙ new_all in
-        let out = crowded_out l e in
-        rw (or_left a b neither, or_right a b neither, out) refl
+      -- L are held, and nobody can be evicted
+      pub open_spent : st.limit + c ≤ held v.base + d → Spent t → one_parent m n now h i t ≡ refused t
+      open_spent full e = spent_left m n now h i t s (pending_sound v).bounded.ordered e new_all (omega (arith, v.count, held_all, full))
+
+      crowded_out : m.alternates ≤ held_at h v.base → victims (at_hash h) v.base ≡ [] → announce_at m (txid h) offered t ≡ refused t
+      crowded_out l e =
+          let none = none_at h s v.base t v.sound.bounded.ordered (pending_sound v).bounded.ordered txid_same wtxid_same e in
+          elim (test (is_candidate n h t || leb max_peer_announcements (held_by n t))) [
+            | inl y ↦ when-barred m (txid h) offered t y
+            | inr y ↦ when-crowded m (txid h) offered t y (le-leb m.alternates (held_at h t) (omega (arith, crowd_all, l))) refl ∙ evicting_none (txid h) offered t (victims (at_hash h) t) none
+          ]
+
+      -- there are as many at the hash as may be, of whom none can be evicted
+      pub open_crowded : m.alternates ≤ held_at h v.base → victims (at_hash h) v.base ≡ [] → one_parent m n now h i t ≡ refused t
+      unfolding request_parent_at
+      open_crowded l e =
+          let a = has n (at (txid h) t).candidates in
+          let b = has n (at (wtxid h) t).candidates in
+          let neither : (a || b) ≡ false = either-kind n h s t (pending_sound v).bounded.ordered ∙ new_all in
+          let out = crowded_out l e in
+          rw (or_left a b neither, or_right a b neither, out) refl

@@ -10,8 +10,6 @@ use lib.Dec.{eqb}
 use lib.ListN.{length, length-append}
 use borrow.Author.Tests.{eqb-true, eqb-false}
 use Rattle.ident.specs.Number.{Key, top, place}
-use Rattle.regions.specs.Regions.{Holds}
-use Rattle.regions.specs.Rows.{row_size, row_words}
 use Rattle.machine.specs.State.{Candidate, Entry, Request, Table, State, on_table, blank, owner_is, is_some}
 use Rattle.machine.specs.Table.{at}
 use Rattle.machine.specs.Announce.{push}
@@ -29,10 +27,10 @@ use Rattle.requests.specs.Changes.{Tells}
 use Rattle.requests.proofs.Keeping.{sized_of}
 use Rattle.failing.proofs.Leaving.{told}
 use Rattle.gathering.specs.Waits.{pushes, Small}
-use Rattle.gathering.specs.Merges.{gathered}
-use Rattle.gathering.specs.Aside.{space, Empty}
+use Rattle.gathering.specs.Aside.{Empty}
 use Rattle.gathering.proofs.OneMore.{nobody_mixed}
 use Rattle.parenting.specs.Waiting.{marks, keys_of, TxKey}
+use Rattle.parenting.proofs.Starting.{apart_none, empty_none}
 use Rattle.parenting.proofs.Marking.{sound-marks, entries-keys}
 use Rattle.postponing.specs.Silent.{late, dropped_all}
 use Rattle.postponing.specs.Pending.{Plain, Pending, OwnsInTime}
@@ -121,17 +119,6 @@ module _ {b w : List ℕ} {d c : ℕ} {st : State} {t : Table} (v : Pending b w 
 
 -- ---- at the start, and at the end
 
--- with no entries
-none_wait : (es : List Entry) {t u : Table} → length es ≡ 0 → t ≡ marks (keys_of es) (pushes es u) → t ≡ u
-unfolding marks pushes
-none_wait [] e q = q
-none_wait (a ∷ l) e q = absurd (omega (arith, e))
-
-empty_none : (es : List Entry) (t : Table) {w : List ℕ} → length es ≡ 0 → Holds row_size row_words space (gathered t es []) w → Empty w
-unfolding gathered
-empty_none [] t e h = h
-empty_none (a ∷ l) t e h = absurd (omega (arith, e))
-
 module _ {b w : List ℕ} {st : State} {t : Table} where
   pub pending_start : Sound (on_table t st) → Writes b (on_table t st) → Plain t → Empty w → Pending b w 0 0 st t
   unfolding marks pushes
@@ -156,7 +143,7 @@ module _ {b w : List ℕ} {st : State} {t : Table} where
 
   module _ (v : Pending b w 0 0 st t) where
     all_here : t ≡ v.base
-    all_here = none_wait v.entries v.mixed.count v.table ∙ dropped_timely 0 v.base v.sound.bounded.filled (v.timely refl)
+    all_here = apart_none v.entries v.mixed.count v.table ∙ dropped_timely 0 v.base v.sound.bounded.filled (v.timely refl)
 
     pub none_sound : Sound (on_table t st)
     none_sound = pending_sound v
@@ -166,3 +153,7 @@ module _ {b w : List ℕ} {st : State} {t : Table} where
 
     pub none_empty : Empty w
     none_empty = empty_none v.entries v.base v.mixed.count v.mixed.rows
+
+-- after what was announced by itself
+pub pending_again : {b b' w : List ℕ} {st : State} {t t' : Table} → Pending b w 0 0 st t → Alone t t' → Sound (on_table t' st) → Writes b' (on_table t' st) → Pending b' w 0 0 st t'
+pending_again v a s g = pending_start s g (plain_alone a s.bounded.ordered (pending_plain v)) (none_empty v)

@@ -1,15 +1,16 @@
 -- Owners that have failed and wait to go, and parents that wait to come in, of whatever connections: what the table of document 01 is meanwhile.
-use Rattle.std.specs.Prelude.{ℕ, ◌+◌, ◌≤◌, ◌≡◌, Bool, true, false, List}
-use Rattle.ident.specs.Number.{Key, txid, wtxid}
-use Rattle.machine.specs.State.{Entry, Table, State, limits_of, on_table, owner_is}
+use Rattle.std.specs.Prelude.{ℕ, ◌+◌, ◌≤◌, ◌<◌, ◌≡◌, Bool, true, false, List, leb}
+use Rattle.ident.specs.Number.{top, Key, place, txid, wtxid}
+use Rattle.machine.specs.State.{Entry, Table, State, limits_of, on_table, refused, owner_is}
 use Rattle.machine.specs.Table.{at, held, is_candidate}
-use Rattle.machine.specs.Fail.{failed}
+use Rattle.machine.specs.Fail.{failed, parent_of}
 use Rattle.machine.specs.Sound.{Ordered, All, Sound}
 use Rattle.machine.specs.Typed.{Each}
 use Rattle.store.specs.Image.{Writes}
 use Rattle.package_stages.specs.Changes.{has_place}
+use Rattle.requests.specs.Changes.{Tells, Spans}
 use Rattle.announcing.specs.Answers.{one_parent}
-use Rattle.gathering.specs.Waits.{pushes, waits}
+use Rattle.gathering.specs.Waits.{pushes, waits, Admits}
 use Rattle.gathering.specs.Aside.{Mixed}
 use Rattle.parenting.specs.Waiting.{marks, keys_of, Parental}
 use Rattle.parenting.specs.Displacing.{Spent}
@@ -49,9 +50,8 @@ pub record Pending (b w : List ℕ) (d c : ℕ) (st : State) (t : Table) : Type 
   pub together : Sound (on_table (pushes entries (dropped_all 0 base)) st)
   pub table : t ≡ marks (keys_of entries) (pushes entries (dropped_all 0 base))
 
--- at the hash h nobody waits, no owner is to go, and the connection n has announced it under neither kind
-pub record OpenTo (n h : ℕ) {b w : List ℕ} {d c : ℕ} {st : State} {t : Table} (v : Pending b w d c st t) : Type 0 where
-  pub new : is_candidate n h v.base ≡ false
+-- at the hash h nobody waits, and no owner is to go
+pub record Open (h : ℕ) {b w : List ℕ} {d c : ℕ} {st : State} {t : Table} (v : Pending b w d c st t) : Type 0 where
   pub living : Living v.base h
   pub apart : waits h v.entries ≡ false
 
@@ -87,12 +87,27 @@ Arrives b b' w w' d = (st : State) (t : Table) → Pending b w d 0 st t → Pend
 abbrev pub Settles : List ℕ → List ℕ → List ℕ → List ℕ → ℕ → ℕ → Type 0
 Settles b b' w w' d c = (st : State) (t : Table) → Pending b w d c st t → Pending b' w' 0 0 st t
 
+-- L announcements are held with the d that wait, and without the c that are to go
+abbrev pub FullWith : List ℕ → ℕ → ℕ → Bool → Type 0
+FullWith b d c r = (st : State) → Sound st → Writes b st → r ≡ leb (st.limit + c) (held st.table + d)
+
+-- r tells whether the owner is to go at the key whose rows are those from .. to
+abbrev pub GoesIn : List ℕ → ℕ → ℕ → Bool → Type 0
+GoesIn b from to r = (k : Key) → k.hash < top → Spans b (place k) from to → Tells b (λ t. r ≡ late 0 (at k t).owner)
+
 -- ---- the parent h is announced for the connection n at `now`, with the priority i
 
 module _ (n now h i : ℕ) where
   pub record AmongAt (b w : List ℕ) (d c : ℕ) (st : State) (t : Table) (kept : Bool) : Type 0 where
     pub reply : (one_parent (limits_of st) n now h i t).reply ≡ kept
     pub pending : Pending b w d c st (one_parent (limits_of st) n now h i t).table
+
+  -- r tells how it fares at an open hash that the connection has announced under neither kind, where `spent` says that no candidate can be evicted
+  pub record Considers (b w : List ℕ) (d c : ℕ) (spent : Bool) (r : Reply) : Type 0 where
+    pub kept : r ≡ reply.Kept → (st : State) (t : Table) (v : Pending b w d c st t) → Open h v → is_candidate n h v.base ≡ false
+        → Admits (limits_of st) (dropped_all 0 v.base) v.entries (txid h) (parent_of n now h i)
+    pub refused : r ≡ reply.Refused → (st : State) (t : Table) (v : Pending b w d c st t) → Open h v → is_candidate n h v.base ≡ false → (spent ≡ true → Spent t)
+        → one_parent (limits_of st) n now h i t ≡ refused t
 
   -- r tells how it fares among those that wait and those that are to go, where `spent` says that no candidate can be evicted; one that is to be announced by itself
   -- is not announced

@@ -1,5 +1,4 @@
 // An owner fails, and goes later with others.
-ghost use Rattle.std.specs.Prelude.{◌≡◌};
 ghost use Rattle.ident.specs.Words.{hash_num, key_num};
 ghost use Rattle.words.specs.Words.{words};
 ghost use Rattle.requests.specs.Changes.{Tells};
