@@ -215,7 +215,9 @@ module _ {b f : List ℕ} {m : ℕ} {d : Delay} {st : State} {xs : List Slot} (o
           size = a.size;
           long = nb ∙ a.long;
           first_long = nf ∙ a.first_long;
-          front = subst (λ (w : List ℕ). Front w d₁ (bare_state (on_table (expire_at (limits_of st) now k n st.table).table st)) (bare (expire_at (limits_of st) now k n st.table).table)) (sym alt.front) a.front;
+          front =
+              let u = (expire_at (limits_of st) now k n st.table).table in
+              subst (λ (w : List ℕ). Front w d₁ (bare_state (on_table u st)) (bare u)) (sym alt.front) a.front;
           slots = alt.slots st.places ys nowhere (omega (arith, inside, lapsed-long r xs)) a.slots;
           lives = ap (filter live) plain_same ∙ a.lives;
           ascend = subst (PlacesAscend 0) (sym plain_same) a.ascend;
@@ -258,7 +260,8 @@ module _ {b f : List ℕ} {m : ℕ} {d : Delay} {st : State} {xs : List Slot} (o
 
 -- ---- without
 
-module _ {b f : List ℕ} {m : ℕ} {d : Delay} {st : State} {xs : List Slot} (o : Around b f m d st xs) (k : Key) (n now : ℕ) (late : now < word) (small : k.hash < top) (own : owner_is n (at k st.table).owner ≡ true)
+module _ {b f : List ℕ} {m : ℕ} {d : Delay} {st : State} {xs : List Slot} (o : Around b f m d st xs) (k : Key) (n now : ℕ) (late : now < word) (small : k.hash < top)
+    (own : owner_is n (at k st.table).owner ≡ true)
     (none : SpotNone (plain xs) k) where
   abbrev t : Table
   t = st.table

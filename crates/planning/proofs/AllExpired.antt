@@ -134,7 +134,8 @@ module _ {b₀ b f₀ f : List ℕ} {m c now x : ℕ} {e : Delay} {q : Progress}
 
 -- ---- an owner
 
-module _ {b₀ b f₀ f : List ℕ} {m c now x low : ℕ} {e : Delay} {k : Key} {n : ℕ} {q : Progress} (a : AllOnTheWay b₀ b f₀ f m c now x e q) (l : Lowest e.later low) (next : DueNext (take m b) low now x k n) where
+module _ {b₀ b f₀ f : List ℕ} {m c now x low : ℕ} {e : Delay} {k : Key} {n : ℕ} {q : Progress} (a : AllOnTheWay b₀ b f₀ f m c now x e q) (l : Lowest e.later low)
+    (next : DueNext (take m b) low now x k n) where
   module _ (st : State) (ps : List Place) (o : Apart b₀ f₀ m st (resting ps)) (count : c ≡ length ps) where
     abbrev way : OnTheWay now st ps b f m x e q
     way = a st ps o count

@@ -75,7 +75,9 @@ module _ {b : List ℕ} (low now : ℕ) {x from : ℕ} {o : rust.Option Row} (q 
     goes = λ v d.
         subst (λ (y : Overdue). DueNext b low now x (key_num y.key) y.connection) (same_Some _ _ d)
         (record {
-          first = λ st s w. record { rest = due_rows low now x (drop (z.at + 1) (rows_of st.table)); is = head st s w row found ∙ ap (λ (k : Key). record { key = k; connection = row.conn } ∷ due_rows low now x (drop (z.at + 1) (rows_of st.table))) (sym e) };
+          first = λ st s w.
+              let ds = due_rows low now x (drop (z.at + 1) (rows_of st.table)) in
+              record { rest = ds; is = head st s w row found ∙ ap (λ (k : Key). record { key = k; connection = row.conn } ∷ ds) (sym e) };
           from = subst (λ (k : Key). x ≤ place k) (sym e) (late p.state p.sound p.writes row found);
           small = small;
         });

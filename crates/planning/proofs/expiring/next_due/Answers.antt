@@ -7,4 +7,6 @@ pub returns-in_err-r : goal.returns-in_err-r
 returns-in_err-r c = rw c.from_residual.ensures (next_ends c.args.low c.args.clock c.after_cursor.ensures.1 c.seek_due.ensures c.in_err-r.was)
 
 pub returns : goal.returns
-returns c = next_goes c.args.low c.args.clock c.after_cursor.ensures.1 c.seek_due.ensures c.in_ok-r.r c.in_ok-r.was c.key_of.result c.key_of.ensures (key_low c.key_of.result c.key_of.type_inv) c.requires
+returns c =
+    let k = c.key_of.result in
+    next_goes c.args.low c.args.clock c.after_cursor.ensures.1 c.seek_due.ensures c.in_ok-r.r c.in_ok-r.was k c.key_of.ensures (key_low k c.key_of.type_inv) c.requires
