@@ -9,9 +9,8 @@ pub mod Slotted
 pub mod Spotting
 pub mod Parting
 pub mod Notes
+pub mod Delays
 pub mod InHalves
 pub mod Overdue
 pub mod OneOwner
-pub mod InTurn
-pub mod Silence
 pub mod Forgetting

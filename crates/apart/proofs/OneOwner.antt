@@ -13,7 +13,7 @@ use Rattle.ident.specs.declared.Kind.TheVariants.{Txid, Wtxid}
 use Rattle.ident.specs.Number.{top, Key, place, wtxid}
 use Rattle.places.specs.Places.{Place, list_most, blank}
 use Rattle.machine.specs.Limits.{word, max_places}
-use Rattle.machine.specs.State.{Table, State, Answer, limits_of, on_table, owner_is, enqueued_in}
+use Rattle.machine.specs.State.{Request, Table, State, Answer, limits_of, on_table, owner_is, enqueued_in}
 use Rattle.machine.specs.Table.{at}
 use Rattle.machine.specs.Announce.{victims, anywhere}
 use Rattle.machine.specs.Fail.{Listed, failed, dedup, parents_from, announce_parents}
@@ -24,7 +24,6 @@ use Rattle.machine.proofs.Table.{lawful_at}
 use Rattle.machine.proofs.Tests.{test}
 use Rattle.store.specs.Flat.{places_of}
 use Rattle.store.specs.FlatSound.{PlacesAscend}
-use Rattle.store.specs.Image.{Writes}
 use Rattle.store.specs.Shown.{Kept}
 use Rattle.store.proofs.Missing.{each_at}
 use Rattle.regions.specs.Order.{Sorted}
@@ -33,20 +32,20 @@ use Rattle.package_stages.specs.Records.{place_hashes}
 use Rattle.package_stages.specs.Changes.{has_place}
 use Rattle.package_stages.specs.Dead.{filter, live}
 use Rattle.package_stages.proofs.Seeking.{hash_at_lem}
-use Rattle.failing.proofs.Leaving.{told}
-use Rattle.announcing.specs.Answers.{Answered}
 use Rattle.std.specs.Prelude as rust
 use Rattle.apart.specs.declared.noting.Announced.{Announced}
 use Rattle.apart.specs.declared.slots.Spot.{Spot}
-use Rattle.apart.specs.Bare.{bare_state}
+use Rattle.apart.specs.Bare.{bare, bare_state}
 use Rattle.apart.specs.declared.lapsing.Progress.{Progress}
-use Rattle.apart.specs.Apart.{Slot, with_notes, dying, plain, Room, Altered, Clear, ClearFrom, SpotHeld, SpotNone, SpotIn, Apart, Parted}
-use Rattle.parenting.specs.Displacing.{Spent, Exhausted}
+use Rattle.apart.specs.Apart.{Slot, with_notes, dying, plain, Room, Altered, Clear, ClearFrom, SpotHeld, SpotNone, SpotIn, Apart}
+use Rattle.apart.specs.Delayed.{Delay, Front, Fronts, FailsIn, Fails, Around}
+use Rattle.parenting.specs.Displacing.{Spent}
 use Rattle.parenting.proofs.SpentStill.{spent-failed}
 use Rattle.apart.specs.Noting.{picked, half_most, picked_in}
-use Rattle.apart.specs.Lapsing.{noted, ClearAt, nowhere, lapsed, LapsedTo, expire_at, PlaceExpired, ExpiredTo}
+use Rattle.apart.specs.Lapsing.{noted, ClearAt, nowhere, lapsed, LapsedTo, expire_at, PlaceExpiring, PlaceExpired, Expiring, ExpiredTo}
 use Rattle.apart.proofs.SlotWords.{plain-long}
-use Rattle.apart.proofs.BareTable.{victims-bare, sound-bare}
+use Rattle.apart.proofs.Delays.{front_on}
+use Rattle.apart.proofs.BareTable.{at_bare, victims-bare, sound-bare}
 use Rattle.apart.proofs.BareChange.{failed-bare}
 use Rattle.apart.proofs.BarePlaces.{no_place, txid-free}
 use Rattle.apart.proofs.BareExpiry.{no-parents, bounded-after, places_unheld}
@@ -68,28 +67,37 @@ module _ {b f : List ℕ} {m : ℕ} {st : State} {xs : List Slot} (o : Apart b f
   pub all_room : {n : ℕ} → n ≤ length xs → Room b f m n
   all_room {n} h = record { first = o.first_long; front = front_within; rest = omega (arith, o.long, o.slots.few, o.slots.some) }
 
+-- the same where others wait
+
+module _ {b f : List ℕ} {m : ℕ} {e : Delay} {st : State} {xs : List Slot} (o : Around b f m e st xs) where
+  pub around_within : m ≤ length b
+  around_within = omega (arith, o.long)
+
+  pub around_room : {n : ℕ} → n ≤ length xs → Room b f m n
+  around_room {n} h = record { first = o.first_long; front = around_within; rest = omega (arith, o.long, o.slots.few, o.slots.some) }
+
   pub few_parents : {k : Key} {r : Spot} → SpotHeld (plain xs) k r → r.parents ≤ list_most
   few_parents {r = r} h = let x = each_at (λ p. length p.parents ≤ list_most) (plain xs) r.at (blank 0 0) o.short h.inside in omega (arith, h.parents (blank 0 0))
 
-  pub lapsed_kept : {k : Key} {r : Spot} → SpotHeld (plain xs) k r → {n now : ℕ} → now < word → k.hash < top → {b₂ f₂ : List ℕ} → LapsedTo b₂ f₂ m st xs r k n now
-      → Kept (take m b₂)
-  lapsed_kept {k} {r} h {n} {now} late small {b₂} g = record {
-    state = bare_state (on_table (failed k n now st.table).table st);
-    sound = sound-bare (sound-table o.sound (bounded-failed k n now small late o.sound.bounded));
-    writes = g.writes;
+  -- the owner of k fails in the table without packages
+  pub around_fails : {k : Key} {n : ℕ} → owner_is n (at k st.table).owner ≡ true → FailsIn (take m b) e k n
+  around_fails {k} {n} own = record {
+    state = bare_state st;
+    now_table = bare st.table;
+    front = o.front;
+    own = ap (λ (r : Request). owner_is n r.owner) (at_bare k st.table) ∙ own;
   }
 
-  -- nobody can be evicted
+  -- nobody can be evicted, once one has lapsed
 
-  pub front_spent : {x : Bool} → Exhausted (take m b) x → x ≡ true → Spent st.table
-  front_spent e i = sym (victims-bare st.table) ∙ e i (bare_state st) (sound-bare o.sound) o.writes
-
-  pub lapsed-spent : {k : Key} {r : Spot} {n now : ℕ} → now < word → k.hash < top → {b₂ f₂ : List ℕ} → LapsedTo b₂ f₂ m st xs r k n now → {x : Bool} → Exhausted (take m b) x
-      → Exhausted (take m b₂) x
-  lapsed-spent {k} {r} {n} {now} late small {b₂} g e i =
-      let t = (failed k n now st.table).table in
-      told Spent (bare_state (on_table t st)) (sound-bare (sound-table o.sound (bounded-failed k n now small late o.sound.bounded))) g.writes
-      (victims-bare t ∙ spent-failed n now o.sound.bounded k small (front_spent e i))
+  pub lapsed_fronts : {k : Key} {r : Spot} {n now : ℕ} → k.hash < top → {b₂ f₂ : List ℕ} {e₂ : Delay} {x : Bool} → LapsedTo b₂ f₂ m e₂ st xs r k n now → (x ≡ true → Spent st.table)
+      → Fronts (take m b₂) e₂ x
+  lapsed_fronts {k} {r} {n} {now} small g given = record {
+    state = bare_state st;
+    now_table = bare (failed k n now st.table).table;
+    front = g.front;
+    none_left = λ i. victims-bare (failed k n now st.table).table ∙ spent-failed n now o.sound.bounded k small (given i);
+  }
 
 -- ---- what is noted
 
@@ -165,7 +173,7 @@ module _ (r : Spot) (xs : List Slot) where
 
 -- ---- with a place
 
-module _ {b f : List ℕ} {m : ℕ} {st : State} {xs : List Slot} (o : Apart b f m st xs) {k : Key} {r : Spot} (h : SpotHeld (plain xs) k r) where
+module _ {b f : List ℕ} {m : ℕ} {d : Delay} {st : State} {xs : List Slot} (o : Around b f m d st xs) {k : Key} {r : Spot} (h : SpotHeld (plain xs) k r) where
   key-place : place k ≡ place (wtxid k.hash)
   key-place = ap (λ (x : Kind). place (record { kind = x; hash = k.hash })) h.kind
 
@@ -181,7 +189,7 @@ module _ {b f : List ℕ} {m : ℕ} {st : State} {xs : List Slot} (o : Apart b f
       let s = places-sorted 0 (plain xs) o.ascend r.at j g (omega (arith, length-map (plain xs) (λ (p : Place). p.hash), plain-long xs)) in
       omega (arith, hash_here)
 
-  module _ {b₁ b₂ f₁ f₂ : List ℕ} {n now : ℕ} {x : Announced} (e : PlaceExpired b₁ f₁ m st xs r k n now x) (alt : Altered b₁ b₂ f₁ f₂ m r.at (with_notes x.note.low x.note.high))
+  module _ {b₁ b₂ f₁ f₂ : List ℕ} {n now : ℕ} {x : Announced} {d₁ : Delay} (e : PlaceExpired b₁ f₁ m d₁ st xs r k n now x) (alt : Altered b₁ b₂ f₁ f₂ m r.at (with_notes x.note.low x.note.high))
       (nb : length b₂ ≡ length b₁) (nf : length f₂ ≡ length f₁) where
     abbrev ys : List Slot
     ys = lapsed r xs
@@ -199,15 +207,17 @@ module _ {b f : List ℕ} {m : ℕ} {st : State} {xs : List Slot} (o : Apart b f
     plain_same : plain zs ≡ plain ys
     plain_same = map-set_same (λ (v : Slot). v.place) ys r.at y nowhere refl
 
-    with-notes : Apart b₂ f₂ m (on_table (expire_at (limits_of st) now k n st.table).table st) zs
+    with-notes : Around b₂ f₂ m d₁ (on_table (expire_at (limits_of st) now k n st.table).table st) zs
     with-notes =
-        let a = e.apart in
+        let a = e.around in
         record {
           sound = a.sound;
           size = a.size;
           long = nb ∙ a.long;
           first_long = nf ∙ a.first_long;
-          writes = subst (λ (w : List ℕ). Writes w (bare_state (on_table (expire_at (limits_of st) now k n st.table).table st))) (sym alt.front) a.writes;
+          front =
+              let u = (expire_at (limits_of st) now k n st.table).table in
+              subst (λ (w : List ℕ). Front w d₁ (bare_state (on_table u st)) (bare u)) (sym alt.front) a.front;
           slots = alt.slots st.places ys nowhere (omega (arith, inside, lapsed-long r xs)) a.slots;
           lives = ap (filter live) plain_same ∙ a.lives;
           ascend = subst (PlacesAscend 0) (sym plain_same) a.ascend;
@@ -232,10 +242,10 @@ module _ {b f : List ℕ} {m : ℕ} {st : State} {xs : List Slot} (o : Apart b f
           ∙ ap (λ (hs : List ℕ). noted xs ++ picked_in hs x.note.low x.note.high) (lapsed-parents r xs)
           ∙ ap (λ (ks : List Key). noted xs ++ ks) e.keys
 
-    pub expired_with : {q : Progress} → ExpiredTo b₂ f₂ m st xs k n now q (record { noted = r.at + 1; spent = x.spent })
+    pub expired_with : {q : Progress} → ExpiredTo b₂ f₂ m d₁ st xs k n now q (record { noted = r.at + 1; spent = x.spent })
     expired_with = record {
       places = zs;
-      apart = with-notes;
+      around = with-notes;
       hashes_same = hashes-are;
       keys = keys-noted;
       later = λ c j d l g.
@@ -250,7 +260,8 @@ module _ {b f : List ℕ} {m : ℕ} {st : State} {xs : List Slot} (o : Apart b f
 
 -- ---- without
 
-module _ {b f : List ℕ} {m : ℕ} {st : State} {xs : List Slot} (o : Apart b f m st xs) (k : Key) (n now : ℕ) (late : now < word) (small : k.hash < top) (own : owner_is n (at k st.table).owner ≡ true)
+module _ {b f : List ℕ} {m : ℕ} {d : Delay} {st : State} {xs : List Slot} (o : Around b f m d st xs) (k : Key) (n now : ℕ) (late : now < word) (small : k.hash < top)
+    (own : owner_is n (at k st.table).owner ≡ true)
     (none : SpotNone (plain xs) k) where
   abbrev t : Table
   t = st.table
@@ -280,22 +291,21 @@ module _ {b f : List ℕ} {m : ℕ} {st : State} {xs : List Slot} (o : Apart b f
   unfolding announce_parents dedup parents_from
   alone = ap (λ (hs : List ℕ). announce_parents (limits_of st) n now hs (failed k n now t).table) (no-parents n (at k t) free)
 
-  pub expired-without : {v : List ℕ} {reply : Bool} {b' : List ℕ} → length v ≡ length (take m b) → Answered (take m b) v reply (λ l x.
-      failed k n now x)
-      → length b' ≡ length b → b' ≡ v ++ drop m b → {q : Progress} → Exhausted (take m b) q.spent → ExpiredTo b' f m st xs k n now q q
-  expired-without {v} {b' = b'} nv ans nb e given = record {
+  pub expired-without : {v b' : List ℕ} {d' : Delay} → length v ≡ length (take m b) → Fails (take m b) v d d' k n now → length b' ≡ length b → b' ≡ v ++ drop m b
+      → {q : Progress} → (q.spent ≡ true → Spent t) → ExpiredTo b' f m d' st xs k n now q q
+  expired-without {v} {b'} {d'} nv fails nb e given = record {
     places = xs;
-    apart = record {
+    around = record {
       sound = sound-table o.sound (bounded-after k n now small late o.sound.bounded own);
       size = o.size;
       long = nb ∙ o.long;
       first_long = o.first_long;
-      writes =
-          let a = ans.table (bare_state st) (sound-bare o.sound) o.writes in
-          subst (λ (y : Listed). Writes (take m b') (bare_state (on_table y.table st))) (sym alone)
-          (subst (λ (y : List ℕ). Writes y (bare_state (on_table (failed k n now t).table st))) (sym (ap (take m) e ∙ front_is b v m (front_within o) nv))
-          (subst (λ (x : Answer). Writes v (on_table x.table (bare_state st))) (failed-bare k n now t calm) a));
-      slots = slots_rest (ap (drop m) e ∙ rest_stays b v m (front_within o) nv) o.slots;
+      front =
+          let a = fails (bare_state st) (bare t) o.front in
+          subst (λ (y : Listed). Front (take m b') d' (bare_state (on_table y.table st)) (bare y.table)) (sym alone)
+          (subst (λ (y : List ℕ). Front y d' (bare_state (on_table (failed k n now t).table st)) (bare (failed k n now t).table)) (sym (ap (take m) e ∙ front_is b v m (around_within o) nv))
+          (front_on st (failed k n now t).table (subst (λ (x : Answer). Front v d' (bare_state st) x.table) (failed-bare k n now t calm) a)));
+      slots = slots_rest (ap (drop m) e ∙ rest_stays b v m (around_within o) nv) o.slots;
       lives = o.lives ∙ sym (places_unheld k n now small late o.sound.bounded own calm free);
       ascend = o.ascend;
       short = o.short;
@@ -304,17 +314,20 @@ module _ {b f : List ℕ} {m : ℕ} {st : State} {xs : List Slot} (o : Apart b f
     keys = λ c. sym (ap (λ (x : Listed). noted xs ++ x.keys) alone ∙ append-nil (noted xs));
     later = λ c j d l g. c j d l (omega arith);
     few = λ c z. z;
-    none_left = λ i. ap (λ (y : Listed). victims anywhere y.table) alone ∙ spent-failed n now o.sound.bounded k small (front_spent o given i);
+    none_left = λ i. ap (λ (y : Listed). victims anywhere y.table) alone ∙ spent-failed n now o.sound.bounded k small (given i);
   }
 
 -- ---- the place that was found, of some state
 
-module _ {b f : List ℕ} {m c : ℕ} (x : Parted b f m c) {k : Key} {o : rust.Option Spot} (y : SpotIn b f m c k o) {r : Spot} (z : o ≡ rust.Some r) where
+module _ {b f : List ℕ} {m c : ℕ} {e : Delay} {k : Key} {n : ℕ} {s : Bool} (x : Expiring b f m c e k n s) {o : rust.Option Spot} (y : SpotIn b f m c k o) {r : Spot} (z : o ≡ rust.Some r) where
   pub found_held : SpotHeld (plain x.places) k r
-  found_held = y.held r z x.state.places x.places x.count x.apart.slots x.apart.ascend
+  found_held = y.held r z x.state.places x.places x.count x.around.slots x.around.ascend
 
   pub found_inside : r.at < c
   found_inside = omega (arith, found_held.inside, x.count, plain-long x.places)
 
   pub found_few : r.at < max_places
-  found_few = omega (arith, found_inside, x.count, x.apart.slots.few, x.apart.sound.most-places)
+  found_few = omega (arith, found_inside, x.count, x.around.slots.few, x.around.sound.most-places)
+
+  pub found_expiring : PlaceExpiring b f m e r k n s
+  found_expiring = record { state = x.state; places = x.places; around = x.around; held = found_held; own = x.own; none_left = x.none_left }

@@ -21,27 +21,32 @@ use Rattle.machine.specs.State.{Package, Table, State, Answer, limits_of, on_tab
 use Rattle.machine.specs.Table.{at, one}
 use Rattle.machine.specs.Announce.{victims, anywhere}
 use Rattle.machine.specs.Fail.{Listed, failed, dedup, parents_from, announce_parents, parents_for}
-use Rattle.machine.specs.Sound.{Sound, Lawful}
+use Rattle.machine.specs.Sound.{Lawful, Bounded}
 use Rattle.machine.specs.Typed.{Each}
-use Rattle.machine.proofs.Fail.{bounded-failed}
+use Rattle.machine.proofs.Alone.{alone-parents}
+use Rattle.machine.proofs.Fail.{bounded-failed, few_for, owner-peer, bounded-parents}
 use Rattle.machine.proofs.Kept.{sound-table}
 use Rattle.machine.proofs.Table.{lawful_at}
 use Rattle.machine.proofs.Tests.{test}
 use Rattle.store.specs.Flat.{places_of}
 use Rattle.store.specs.FlatSound.{PlacesAscend}
-use Rattle.store.specs.Image.{Writes}
 use Rattle.store.proofs.Missing.{each_at}
 use Rattle.package_stages.specs.Changes.{stage_of, has_place}
 use Rattle.package_stages.specs.Dead.{filter, live}
 use Rattle.package_stages.proofs.Seeking.{place_in}
-use Rattle.announcing.specs.Answers.{Answered}
 use Rattle.apart.specs.declared.noting.Announced.{Announced}
 use Rattle.apart.specs.declared.slots.Spot.{Spot}
 use Rattle.apart.specs.Bare.{bare, bare_state, bare_listed, other_than}
-use Rattle.apart.specs.Apart.{Slot, slot_words, dying, plain, Slots, SlotOf, Altered, SpotHeld, Apart}
-use Rattle.apart.specs.Noting.{hashes_at, picked_in, Noted}
+use Rattle.apart.specs.Apart.{Slot, slot_words, dying, plain, Slots, SlotOf, Altered, SpotHeld}
+use Rattle.apart.specs.Delayed.{Delay, Front, Fails, Around}
+use Rattle.apart.specs.Noting.{hashes_at, picked_in, NotedAt, Noted}
 use Rattle.apart.specs.Lapsing.{nowhere, lapsed, LapsedTo, expire_at, PlaceExpired}
-use Rattle.apart.proofs.BareTable.{victims-bare, sound-bare}
+use Rattle.parenting.specs.Displacing.{Spent}
+use Rattle.parenting.proofs.SpentStill.{spent-failed}
+use Rattle.postponing.specs.Pending.{Plain}
+use Rattle.postponing.proofs.Starting.{plain_alone, pending_plain}
+use Rattle.apart.proofs.BareTable.{victims-bare, bounded-bare}
+use Rattle.apart.proofs.Delays.{front_on}
 use Rattle.apart.proofs.BareChange.{failed-bare, enqueued_stays}
 use Rattle.apart.proofs.BareAnnounce.{parents_from-bare}
 use Rattle.apart.proofs.BarePlaces.{PlaceOf, place-whose}
@@ -171,7 +176,7 @@ module _ (r : Spot) (xs : List Slot) where
     | inr e ↦ rw e (subst P (ap (λ (q : Place). set (plain xs) r.at (with_stage 0 q)) place_here ∙ sym (plain-set xs r.at (dying (get_or xs r.at nowhere)))) w)
   ]
 
-module _ {b f : List ℕ} {m : ℕ} {st : State} {xs : List Slot} (o : Apart b f m st xs) {k : Key} {r : Spot} (h : SpotHeld (plain xs) k r) where
+module _ {b f : List ℕ} {m : ℕ} {e : Delay} {st : State} {xs : List Slot} (o : Around b f m e st xs) {k : Key} {r : Spot} (h : SpotHeld (plain xs) k r) where
   abbrev t : Table
   t = st.table
 
@@ -213,29 +218,27 @@ module _ {b f : List ℕ} {m : ℕ} {st : State} {xs : List Slot} (o : Apart b f
   -- ---- it lapses
 
   module _ (n now : ℕ) where
-    pub lapse_stays : eqb r.stage 3 ≡ true → LapsedTo b f m st xs r k n now
-    lapse_stays e = record {
-      writes = subst (λ (x : Table). Writes (take m b) (bare_state (on_table x st))) (sym (ap (λ (a : Answer). a.table) (enqueued_stays k n now t (enqueued_is ∙ e)))) o.writes;
-      slots = subst (λ (x : Bool). Slots b f m st.places (if x then xs else set xs r.at (dying q))) (sym e) o.slots;
+    pub lapse_stays : eqb r.stage 3 ≡ true → LapsedTo b f m e st xs r k n now
+    lapse_stays i = record {
+      front = subst (λ (x : Table). Front (take m b) e (bare_state st) (bare x)) (sym (ap (λ (a : Answer). a.table) (enqueued_stays k n now t (enqueued_is ∙ i)))) o.front;
+      slots = subst (λ (x : Bool). Slots b f m st.places (if x then xs else set xs r.at (dying q))) (sym i) o.slots;
     }
 
-    pub lapse-fails : {v : List ℕ} {reply : Bool} {b₁ b₂ f₂ : List ℕ} → eqb r.stage 3 ≡ false → m ≤ length b → length v ≡ length (take m b)
-        → Answered (take m b) v reply (λ l x. failed k n now x) → b₁ ≡ v ++ drop m b → Altered b₁ b₂ f f₂ m r.at dying → LapsedTo b₂ f₂ m st xs r k
-        n now
-    lapse-fails {v} {b₁ = b₁} {b₂} {f₂} e l nv ans e₁ kill = record {
-      writes =
-          let a = ans.table (bare_state st) (sound-bare o.sound) o.writes in
-          let z : take m b₂ ≡ v = kill.front ∙ ap (take m) e₁ ∙ front_is b v m l nv in
-          subst (λ (y : List ℕ). Writes y (bare_state (on_table (failed k n now t).table st))) (sym z)
-          (subst (λ (x : Answer). Writes v (on_table x.table (bare_state st))) (failed-bare k n now t (enqueued_is ∙ e)) a);
-      slots = subst (λ (x : Bool). Slots b₂ f₂ m st.places (if x then xs else set xs r.at (dying q))) (sym e)
-          (kill.slots st.places xs nowhere (omega (arith, h.inside, plain-long xs)) (slots_rest (ap (drop m) e₁ ∙ rest_stays b v m l nv) o.slots));
+    pub lapse-fails : {v : List ℕ} {e₁ : Delay} {b₁ b₂ f₂ : List ℕ} → eqb r.stage 3 ≡ false → m ≤ length b → length v ≡ length (take m b)
+        → Fails (take m b) v e e₁ k n now → b₁ ≡ v ++ drop m b → Altered b₁ b₂ f f₂ m r.at dying → LapsedTo b₂ f₂ m e₁ st xs r k n now
+    lapse-fails {v} {e₁} {b₁} {b₂} {f₂} i l nv fails again kill = record {
+      front =
+          let z : take m b₂ ≡ v = kill.front ∙ ap (take m) again ∙ front_is b v m l nv in
+          subst (λ (y : List ℕ). Front y e₁ (bare_state st) (bare (failed k n now t).table)) (sym z)
+          (subst (λ (x : Answer). Front v e₁ (bare_state st) x.table) (failed-bare k n now t (enqueued_is ∙ i)) (fails (bare_state st) (bare t) o.front));
+      slots = subst (λ (x : Bool). Slots b₂ f₂ m st.places (if x then xs else set xs r.at (dying q))) (sym i)
+          (kill.slots st.places xs nowhere (omega (arith, h.inside, plain-long xs)) (slots_rest (ap (drop m) again ∙ rest_stays b v m l nv) o.slots));
     }
 
     module _ (late : now < word) (small : k.hash < top) where
-      -- the state once it has lapsed
-      pub lapsed-sound : Sound (on_table (failed k n now t).table st)
-      lapsed-sound = sound-table o.sound (bounded-failed k n now small late o.sound.bounded)
+      -- the table once it has lapsed
+      lapsed-bounded : Bounded (limits_of st) st.places (failed k n now t).table
+      lapsed-bounded = bounded-failed k n now small late o.sound.bounded
 
       module _ (own : owner_is n (at k t).owner ≡ true) where
         lawful : Lawful (at k t)
@@ -258,39 +261,49 @@ module _ {b f : List ℕ} {m : ℕ} {st : State} {xs : List Slot} (o : Apart b f
               (sym (places-without k n now small late o.sound.bounded own (enqueued_is ∙ e) h.kind)))
         ]
 
-        module _ {b₂ f₂ : List ℕ} (g : LapsedTo b₂ f₂ m st xs r k n now) (z : List ℕ) {v : List ℕ} {x : Announced} (loaded : SlotOf z q) (l : m ≤ length b₂) (nv : length v ≡ length (take m b₂))
-            (a : Noted (take m b₂) v n now (hashes_at (words z) 0 r.parents) x) where
+        module _ {b₂ f₂ : List ℕ} {e₂ e₃ : Delay} (g : LapsedTo b₂ f₂ m e₂ st xs r k n now) (z : List ℕ) {v : List ℕ} {spent : Bool} {x : Announced} (loaded : SlotOf z q) (l : m ≤ length b₂)
+            (nv : length v ≡ length (take m b₂)) (a : Noted (take m b₂) v e₂ e₃ spent n now (hashes_at (words z) 0 r.parents) x) (given : spent ≡ true → Spent t) where
           hashes : hashes_at (words z) 0 r.parents ≡ p.parents
           hashes =
               ap (hashes_at (words z) 0) (h.parents (blank 0 0) ∙ ap (λ (y : Place). length y.parents) p_is)
               ∙ slot_all z q loaded (subst (λ (y : Place). length y.parents ≤ list_most) p_is short) ∙ sym (ap (λ (y : Place). y.parents) p_is)
 
-          told : Noted (take m b₂) v n now p.parents x
-          told = rw hashes at a
+          abbrev after : Table
+          after = (failed k n now t).table
 
-          abbrev after : State
-          after = on_table (failed k n now t).table st
+          abbrev last : Table
+          last = (expire_at (limits_of st) now k n t).table
 
-          bare_is : parents_from (limits_of st) n now 0 p.parents (bare after.table) ≡ bare_listed (expire_at (limits_of st) now k n t)
-          bare_is = parents_from-bare (limits_of st) n now 0 p.parents after.table ∙ ap bare_listed (sym (announced after.table))
+          bare_is : parents_from (limits_of st) n now 0 p.parents (bare after) ≡ bare_listed (expire_at (limits_of st) now k n t)
+          bare_is = parents_from-bare (limits_of st) n now 0 p.parents after ∙ ap bare_listed (sym (announced after))
 
-          pub place-expired : {b₃ : List ℕ} → length b₃ ≡ length b → length f₂ ≡ length f → b₃ ≡ v ++ drop m b₂ → PlaceExpired b₃ f₂ m st xs r k n now x
-          place-expired {b₃} n₃ nf e₃ = record {
-            apart = record {
+          told : NotedAt v e₂ e₃ n now p.parents (bare_state st) (bare after) x
+          told = (rw hashes at a) (bare_state st) (bare after) g.front (λ i. victims-bare after ∙ spent-failed n now o.sound.bounded k small (given i))
+
+          -- no owner gets the deadline 0 by it
+          plain-after : e₂.later ≡ true → Plain (parents_from (limits_of st) n now 0 p.parents (bare after)).table
+          plain-after i =
+              let peer = owner-peer n (at k t) lawful own in
+              let alone = alone-parents n now _ peer late (few_for n (at k t) lawful) (bounded-bare 1 lapsed-bounded) in
+              subst (λ (y : Listed). Plain y.table) (announced (bare after)) (plain_alone alone
+              (bounded-parents n now _ peer late (few_for n (at k t) lawful) (bounded-bare 1 lapsed-bounded)).ordered (pending_plain (g.front.later i)))
+
+          pub place-expired : {b₃ : List ℕ} → length b₃ ≡ length b → length f₂ ≡ length f → b₃ ≡ v ++ drop m b₂ → PlaceExpired b₃ f₂ m e₃ st xs r k n now x
+          place-expired {b₃} n₃ nf again = record {
+            around = record {
               sound = sound-table o.sound (bounded-after k n now small late o.sound.bounded own);
               size = o.size;
               long = n₃ ∙ o.long;
               first_long = nf ∙ o.first_long;
-              writes =
-                  subst (λ (y : List ℕ). Writes y (bare_state (on_table (expire_at (limits_of st) now k n t).table st))) (sym (ap (take m) e₃ ∙ front_is b₂ v m l nv))
-                  (subst (λ (y : Listed). Writes v (on_table y.table (bare_state st))) bare_is (told.table (bare_state after) (sound-bare lapsed-sound) g.writes));
-              slots = slots_rest (ap (drop m) e₃ ∙ rest_stays b₂ v m l nv) g.slots;
+              front =
+                  front_on st last
+                  (subst (λ (y : List ℕ). Front y e₃ (bare_state st) (bare last)) (sym (ap (take m) again ∙ front_is b₂ v m l nv))
+                  (subst (λ (y : Listed). Front v e₃ (bare_state st) y.table) bare_is (told.front plain-after)));
+              slots = slots_rest (ap (drop m) again ∙ rest_stays b₂ v m l nv) g.slots;
               lives = lives_still;
               ascend = lapsed_as r xs (PlacesAscend 0) o.ascend (dies-ascend 0 ps r.at (blank 0 0) o.ascend);
               short = lapsed_as r xs (Each (λ y. length y.parents ≤ list_most)) o.short (dies-short ps r.at (blank 0 0) o.short);
             };
-            keys = ap (λ (y : Place). picked_in y.parents x.note.low x.note.high) (sym p_is) ∙ told.keys (bare_state after) (sound-bare lapsed-sound) g.writes ∙ ap (λ (y : Listed). y.keys)
-                bare_is;
-            none_left = λ e. sym (victims-bare (expire_at (limits_of st) now k n t).table) ∙ ap (λ (y : Listed). victims anywhere y.table) (sym bare_is)
-                ∙ told.none_left (bare_state after) (sound-bare lapsed-sound) g.writes e;
+            keys = ap (λ (y : Place). picked_in y.parents x.note.low x.note.high) (sym p_is) ∙ told.keys ∙ ap (λ (y : Listed). y.keys) bare_is;
+            none_left = λ i. sym (victims-bare last) ∙ ap (λ (y : Listed). victims anywhere y.table) (sym bare_is) ∙ told.none_left i;
           }

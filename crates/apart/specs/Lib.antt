@@ -1,4 +1,5 @@
 pub mod Bare
 pub mod Apart
+pub mod Delayed
 pub mod Noting
 pub mod Lapsing

@@ -5,16 +5,16 @@ use Rattle.ident.specs.Words.{hash_num}
 use Rattle.regions.specs.Rows.{quad_number, read_quad}
 use Rattle.places.specs.Places.{list_most, place_size, parents_at}
 use Rattle.machine.specs.Limits.{Limits}
-use Rattle.machine.specs.State.{Table, State, limits_of, on_table}
+use Rattle.machine.specs.State.{Table, State, limits_of}
 use Rattle.machine.specs.Table.{one}
 use Rattle.machine.specs.Fail.{parents_from}
-use Rattle.machine.specs.Sound.{Sound}
-use Rattle.store.specs.Image.{Writes}
 use Rattle.announcing.specs.Answers.{one_parent}
 use Rattle.parenting.specs.declared.parent.Parent.{Parent}
-use Rattle.parenting.specs.Displacing.{Spent, Reserve, Supplied}
+use Rattle.parenting.specs.Displacing.{Spent, Reserve}
 use Rattle.apart.specs.declared.noting.Announced.{Announced}
 use Rattle.apart.specs.Apart.{Slot, SlotOf}
+use Rattle.postponing.specs.Pending.{Plain}
+use Rattle.apart.specs.Delayed.{Delay, Front, Open}
 
 -- ---- parents of a place, read from its words
 
@@ -68,23 +68,26 @@ picked_in hs low high = picked (take half_most hs) low ++ picked (drop half_most
 
 -- ---- parts of contracts
 
--- the bits of one half, how many parents wait after it, and what is known of the victims
+-- the bits of one half, what waits after it, and what is known of the victims
 pub record Half : Type 0 where
   pub bits : ℕ
-  pub waiting : ℕ
+  pub delay : Delay
   pub reserve : Reserve
 
--- the parents hs are announced for the connection n at `now`, the first with the priority i, where some wait beside the store and q is known of the victims
+-- the parents hs are announced for the connection n at `now`, the first with the priority i, where others wait and q is known of the victims in the words v
 module _ (n now : ℕ) where
-  pub record HalfAt (b' w' v' : List ℕ) (i : ℕ) (hs : List ℕ) (st : State) (t : Table) (r : Half) : Type 0 where
+  pub record HalfAt (l : Bool) (b' v' : List ℕ) (i : ℕ) (hs : List ℕ) (st : State) (t : Table) (r : Half) : Type 0 where
     pub bits : r.bits ≡ kept_bits (limits_of st) n now i hs t
-    pub supplied : Supplied n b' w' v' r.waiting st (parents_from (limits_of st) n now i hs t).table r.reserve
+    pub opened : Open n l b' v' r.delay r.reserve st (parents_from (limits_of st) n now i hs t).table
 
-  abbrev pub HalfIn : List ℕ → List ℕ → List ℕ → List ℕ → List ℕ → List ℕ → ℕ → List ℕ → ℕ → Reserve → Half → Type 0
-  HalfIn b b' w w' v v' i hs d q r = (st : State) (t : Table) → Supplied n b w v d st t q → HalfAt b' w' v' i hs st t r
+  abbrev pub HalfIn : List ℕ → List ℕ → List ℕ → List ℕ → ℕ → List ℕ → Delay → Reserve → Half → Type 0
+  HalfIn b b' v v' i hs e q r = (l : Bool) (st : State) (t : Table) → Open n l b v e q st t → HalfAt l b' v' i hs st t r
 
 -- all hashes hs are announced, those kept noted in two halves
-pub record Noted (b b' : List ℕ) (n now : ℕ) (hs : List ℕ) (r : Announced) : Type 0 where
-  pub keys : (st : State) → Sound st → Writes b st → picked_in hs r.note.low r.note.high ≡ (parents_from (limits_of st) n now 0 hs st.table).keys
-  pub table : (st : State) → Sound st → Writes b st → Writes b' (on_table (parents_from (limits_of st) n now 0 hs st.table).table st)
-  pub none_left : (st : State) → Sound st → Writes b st → r.spent ≡ true → Spent (parents_from (limits_of st) n now 0 hs st.table).table
+pub record NotedAt (b' : List ℕ) (e e' : Delay) (n now : ℕ) (hs : List ℕ) (st : State) (t : Table) (r : Announced) : Type 0 where
+  pub keys : picked_in hs r.note.low r.note.high ≡ (parents_from (limits_of st) n now 0 hs t).keys
+  pub front : (e.later ≡ true → Plain (parents_from (limits_of st) n now 0 hs t).table) → Front b' e' st (parents_from (limits_of st) n now 0 hs t).table
+  pub none_left : r.spent ≡ true → Spent (parents_from (limits_of st) n now 0 hs t).table
+
+abbrev pub Noted : List ℕ → List ℕ → Delay → Delay → Bool → ℕ → ℕ → List ℕ → Announced → Type 0
+Noted b b' e e' spent n now hs r = (st : State) (t : Table) → Front b e st t → (spent ≡ true → Spent t) → NotedAt b' e e' n now hs st t r

@@ -12,6 +12,7 @@ ghost use Rattle.apart.specs.Apart.{bare_bytes, SetApart, Rested, PutBack};
 use places::PLACE;
 use store::layout;
 
+pub mod delayed;
 pub mod lapsing;
 pub mod noting;
 pub mod parents;

@@ -3,16 +3,15 @@ ghost use Rattle.std.specs.Prelude.{◌≡◌, ◌+◌, ◌-◌, ◌≤◌, ◌<
 ghost use Rattle.ident.specs.Words.{hash_num};
 ghost use Rattle.words.specs.Words.{words};
 ghost use Rattle.places.specs.Places.{list_most};
-ghost use Rattle.store.specs.Shown.{Kept};
-ghost use Rattle.parenting.specs.Displacing.{reserve_of, Exhausted, Supplies};
+ghost use Rattle.parenting.specs.Displacing.{reserve_of};
+ghost use Rattle.apart.specs.Delayed.{delay_of, Fronts, Opens};
 ghost use Rattle.apart.specs.Noting.{parent_in, hashes_at, ParentsIn, half_most, Halved, HalfIn, Noted};
 
 use crate::SLOT;
+use crate::delayed::Delayed;
 use crate::parents::Parents;
 use crate::slots::Note;
-use gathering::rows::Waiting;
 use machine::limits::MAX_PARENTS;
-use parenting::displacing;
 use parenting::displacing::Known;
 
 // Half of a place's parents.
@@ -47,23 +46,24 @@ pub fn parent_of(slot: &[u8; SLOT], j: usize) -> ident::Hash
     ident::Hash::from(places::read_parent(slot, 0, j))
 }
 
-// Announces the parents from .. to beside those that wait; answers the bits of those kept.
+// Announces the parents from .. to while others wait; answers the bits of those kept.
 fn announce_bits(
     s: &mut [u8],
     p: Parents,
-    new: &mut Waiting,
+    delayed: &mut Delayed,
     q: &mut Known,
     from: usize,
     to: usize,
 ) -> u64
-    requires { Supplies p.connection.number s.old (words new.old.bytes) (words q.old.listed.bytes) new.old.count (reserve_of q.old)
+    requires { Opens p.connection.number s.old (words q.old.listed.bytes) (delay_of delayed.old) (reserve_of q.old)
         × (from ≤ to) × (to ≤ from + half_most) × (to ≤ p.count) }
-    ensures { HalfIn p.entry.connection.number p.entry.clock s.old s.new (words new.old.bytes) (words new.new.bytes) (words q.old.listed.bytes) (words q.new.listed.bytes)
-        from (hashes_at (words p.entry.slot.now) from (to - from)) new.old.count (reserve_of q.old) (record { bits = result; waiting = new.new.count; reserve = reserve_of q.new }) }
+    ensures { HalfIn p.entry.connection.number p.entry.clock s.old s.new (words q.old.listed.bytes) (words q.new.listed.bytes)
+        from (hashes_at (words p.entry.slot.now) from (to - from)) (delay_of delayed.old) (reserve_of q.old)
+        (record { bits = result; delay = delay_of delayed.new; reserve = reserve_of q.new }) }
 {
     let mut bits = 0;
     for j in from..to {
-        let kept = displacing::announce_further(s, new, q, p.parent(j));
+        let kept = delayed.announce(s, q, p.parent(j));
         bits += u64::from(kept) << (j - from);
     }
     bits
@@ -71,16 +71,16 @@ fn announce_bits(
 
 // Announces the parents, and notes those kept. spent: nobody can be evicted. (It picks nothing here: it is the first of what is known of the
 // victims.)
-pub fn announce_all(s: &mut [u8], p: Parents, spent: bool) -> Announced
-    requires { Kept s.old × Exhausted s.old spent }
-    ensures { Noted s.old s.new p.entry.connection.number p.entry.clock (hashes_at (words p.entry.slot.now) 0 p.entry.count) result }
+pub fn announce_all(s: &mut [u8], p: Parents, delayed: &mut Delayed, spent: bool) -> Announced
+    requires { Fronts s.old (delay_of delayed.old) spent }
+    ensures { Noted s.old s.new (delay_of delayed.old) (delay_of delayed.new) spent p.entry.connection.number p.entry.clock
+        (hashes_at (words p.entry.slot.now) 0 p.entry.count) result }
 {
-    let mut new = Waiting::none();
     let mut q = Known::nothing_listed(spent);
     let e = first_half(p.count);
-    let low = announce_bits(s, p, &mut new, &mut q, 0, e);
-    let high = announce_bits(s, p, &mut new, &mut q, e, p.count);
-    displacing::finish(s, &mut new, &mut q, p.connection.number);
+    let low = announce_bits(s, p, delayed, &mut q, 0, e);
+    let high = announce_bits(s, p, delayed, &mut q, e, p.count);
+    delayed.close(s, &mut q, p.connection.number);
     Announced {
         note: Note { low, high },
         spent: q.spent,

@@ -6,7 +6,7 @@ use mathlib.Core.Bool.{true, false}
 use mathlib.Core.List.{List, [], ◌∷◌, ◌++◌}
 use native.Mathlib.Omega.{arith}
 use native.Mathlib.Numerals.{add-one}
-use lib.ListN.{length, take, get_or, length-map}
+use lib.ListN.{length, take, drop, get_or, length-map}
 use Rattle.ident.specs.declared.Kind.{Kind}
 use Rattle.ident.specs.declared.Kind.TheVariants.{Txid, Wtxid}
 use Rattle.ident.specs.Number.{top, base, Key, place}
@@ -16,24 +16,27 @@ use Rattle.machine.specs.State.{Request, Table, State, limits_of, on_table, owne
 use Rattle.machine.specs.Table.{at}
 use Rattle.machine.specs.Plan.{Due, expired}
 use Rattle.machine.specs.Sound.{Ordered, All, Lawful}
+use Rattle.machine.proofs.Fail.{Peer}
 use Rattle.machine.proofs.At.{at_here, at_there}
 use Rattle.machine.proofs.Tests.{never}
+use Rattle.store.specs.Image.{Writes}
+use Rattle.store.specs.Shown.{Kept}
 use Rattle.requests.specs.Changes.{Tells}
 use Rattle.package_stages.specs.Records.{place_hashes}
 use Rattle.apart.specs.Bare.{bare, bare_state}
 use Rattle.apart.specs.declared.lapsing.Progress.{Progress}
-use Rattle.apart.specs.Apart.{Slot, resting, plain, Clear, ClearFrom, Apart, Parted, Rested}
-use Rattle.parenting.specs.Displacing.{Spent, Exhausted}
-use Rattle.apart.specs.Lapsing.{noted, ClearAt, Expires}
+use Rattle.apart.specs.Apart.{Slot, resting, plain, Clear, ClearFrom, Apart, Rested}
+use Rattle.apart.specs.Delayed.{Delay, Starts, Ends, PendsIf, Lowest, Around}
+use Rattle.parenting.specs.Displacing.{Spent}
+use Rattle.apart.specs.Lapsing.{noted, ClearAt, Expires, Expiring as OwnerExpiring}
 use Rattle.apart.proofs.SlotWords.{plain-long, plain_rest}
-use Rattle.apart.proofs.BareTable.{victims-bare, sound-bare}
-use Rattle.postponing.specs.Silent.{within, fail_each}
-use Rattle.apart.proofs.OneOwner.{noted_none}
-use Rattle.apart.proofs.Silence.{run_went}
-use Rattle.failing.proofs.Leaving.{told}
-use Rattle.planning.specs.Expiring.{expire_one, due_from, due_run, DueNext, RunExpires, ExpiresAll}
+use Rattle.apart.proofs.BareTable.{sound-bare}
+use Rattle.apart.proofs.Overdue.{front_is, rest_stays, slots_rest}
+use Rattle.apart.proofs.OneOwner.{noted_none, around_within}
+use Rattle.postponing.specs.Pending.{Unplaced}
+use Rattle.planning.specs.Expiring.{expire_one, due_from, still_from, Leads, DueNext, ExpiresAll}
 use Rattle.planning.proofs.BareDue.{due_from_bare}
-use Rattle.planning.proofs.Runs.{expiring_run}
+use Rattle.planning.proofs.StillDue.{Basis, basis, front_keeps}
 use Rattle.planning.proofs.Overdue.{due_cases, due_first, Expiring, expiring_start, expiring_end, expiring_more}
 
 place_base : (t : Kind) (h : ℕ) → h < top → base t + h < top + top
@@ -61,18 +64,18 @@ due-owns now x lo (r ∷ t) d ds o l e =
     ]
 
 -- the owners before the place x of the state st, with the places ps, are expired
-pub record OnTheWay (now : ℕ) (st : State) (ps : List Place) (b f : List ℕ) (m x : ℕ) (q : Progress) : Type 0 where
+pub record OnTheWay (now : ℕ) (st : State) (ps : List Place) (b f : List ℕ) (m x : ℕ) (e : Delay) (q : Progress) : Type 0 where
   pub table : Table
   pub places : List Slot
-  pub apart : Apart b f m (on_table table st) places
+  pub around : Around b f m e (on_table table st) places
   pub hashes_same : place_hashes (plain places) ≡ place_hashes ps
   pub going : Expiring (limits_of st) now (expired now st) x table (noted places)
   pub later : ClearAt x places
   pub few : ClearFrom q.noted places
   pub none_left : q.spent ≡ true → Spent table
 
-abbrev pub AllOnTheWay : List ℕ → List ℕ → List ℕ → List ℕ → ℕ → ℕ → ℕ → ℕ → Progress → Type 0
-AllOnTheWay b₀ b f₀ f m c now x q = (st : State) (ps : List Place) → Apart b₀ f₀ m st (resting ps) → c ≡ length ps → OnTheWay now st ps b f m x q
+abbrev pub AllOnTheWay : List ℕ → List ℕ → List ℕ → List ℕ → ℕ → ℕ → ℕ → ℕ → Delay → Progress → Type 0
+AllOnTheWay b₀ b f₀ f m c now x e q = (st : State) (ps : List Place) → Apart b₀ f₀ m st (resting ps) → c ≡ length ps → OnTheWay now st ps b f m x e q
 
 same_long : (ps : List Place) (xs : List Slot) → place_hashes (plain xs) ≡ place_hashes ps → length ps ≡ length xs
 same_long ps xs e = sym (length-map ps (λ (p : Place). p.hash)) ∙ ap length (sym e) ∙ length-map (plain xs) (λ (p : Place). p.hash) ∙ plain-long xs
@@ -83,13 +86,29 @@ rest_clear [] j d h = absurd (omega arith)
 rest_clear (p ∷ ps) zero d h = record { low_bits = refl; high_bits = refl }
 rest_clear (p ∷ ps) (suc j) d h = rest_clear ps j d (omega arith)
 
-pub way-starts : {b f : List ℕ} {m c : ℕ} (now x : ℕ) → x ≡ 0 → (q : Progress) → q.spent ≡ false → AllOnTheWay b b f f m c now x q
-way-starts now x e q z st ps o n =
+-- without packages no request has a place
+unplaced_bare : (t : Table) → Unplaced (bare t)
+unfolding bare
+unplaced_bare [] = tt
+unplaced_bare (r ∷ t) = (refl, unplaced_bare t)
+
+pub way-starts : {b f : List ℕ} {m c : ℕ} {e : Delay} (now x : ℕ) → x ≡ 0 → Starts (take m b) e → (q : Progress) → q.spent ≡ false → AllOnTheWay b b f f m c now x e q
+way-starts now x e front q z st ps o n =
     let none = noted_none (resting ps) (λ j d g h. rest_clear ps j d h) in
     record {
       table = st.table;
       places = resting ps;
-      apart = o;
+      around = record {
+        sound = o.sound;
+        size = o.size;
+        long = o.long;
+        first_long = o.first_long;
+        front = front (bare_state st) (sound-bare o.sound) o.writes (unplaced_bare st.table);
+        slots = o.slots;
+        lives = o.lives;
+        ascend = o.ascend;
+        short = o.short;
+      };
       hashes_same = ap place_hashes (plain_rest ps);
       going = subst (λ (ks : List Key). Expiring (limits_of st) now (expired now st) x st.table ks) (sym none)
           (subst (λ (i : ℕ). Expiring (limits_of st) now (expired now st) i st.table []) (sym e) (expiring_start (limits_of st) now st.table o.sound.bounded.ordered));
@@ -98,75 +117,104 @@ way-starts now x e q z st ps o n =
       none_left = λ i. never (sym z ∙ i);
     }
 
-pub way-parted : {b₀ b f₀ f : List ℕ} {m c now x : ℕ} {q : Progress} → Rested b₀ f₀ m c → AllOnTheWay b₀ b f₀ f m c now x q → Parted b f m c
-way-parted p a =
-    let g = a p.state p.places p.apart p.count in
-    record { state = on_table g.table p.state; places = g.places; apart = g.apart; count = p.count ∙ same_long p.places g.places g.hashes_same }
+-- ---- what the functions ask for, of the state that there is
 
--- nobody can be evicted in the store as it is
-pub way-spent : {b₀ b f₀ f : List ℕ} {m c now x : ℕ} {q : Progress} → Rested b₀ f₀ m c → AllOnTheWay b₀ b f₀ f m c now x q → Exhausted (take m b) q.spent
-way-spent p a i =
-    let g = a p.state p.places p.apart p.count in
-    told Spent (bare_state (on_table g.table p.state)) (sound-bare g.apart.sound) g.apart.writes (victims-bare g.table ∙ g.none_left i)
+module _ {b₀ b f₀ f : List ℕ} {m c now x : ℕ} {e : Delay} {q : Progress} (p : Rested b₀ f₀ m c) (a : AllOnTheWay b₀ b f₀ f m c now x e q) where
+  abbrev here : OnTheWay now p.state p.places b f m x e q
+  here = a p.state p.places p.apart p.count
 
-pub way_goes : {b₀ b b' f₀ f f' : List ℕ} {m c now x : ℕ} {k : Key} {n : ℕ} {q q' : Progress} → now < word → AllOnTheWay b₀ b f₀ f m c now x q
-    → DueNext (take m b) now x k n → Expires b b' f f' m c k n now q q' → AllOnTheWay b₀ b' f₀ f' m c now (place k + 1) q'
-way_goes {b' = b'} {f' = f'} {m} {c} {now} {x} {k} {n} w a next one st ps o count =
-    let g = a st ps o count in
-    let t = g.table in
-    let s = g.apart.sound in
-    let e : due_from now x t ≡ record { key = k; connection = n } ∷ due_from now (suc (place k)) (bare t) = sym (due_from_bare now x t) ∙ next.first (bare_state (on_table t st)) (sound-bare s)
-    g.apart.writes in
-    let y = one.goes (on_table t st) g.places g.apart (count ∙ same_long ps g.places g.hashes_same)
-    (due-owns now x 0 t (record { key = k; connection = n }) _ s.bounded.ordered s.bounded.lawful e) in
-    let t₁ = (expire_one (limits_of st) now k n t).table in
-    let ks₁ = (expire_one (limits_of st) now k n t).keys in
-    let here : ClearAt (place k) g.places = λ j d h l. g.later j d h (omega (arith, next.from)) in
-    let more = expiring_more g.going (record { key = k; connection = n }) _ w s.bounded e in
-    record {
-      table = t₁;
-      places = y.places;
-      apart = y.apart;
-      hashes_same = y.hashes_same ∙ g.hashes_same;
-      going = subst (λ (ks : List Key). Expiring (limits_of st) now (expired now st) (place k + 1) t₁ ks) (sym (y.keys here)) (subst (λ (i : ℕ). Expiring (limits_of st) now (expired now st) i t₁
-          (noted g.places ++ ks₁)) (sym (add-one (place k))) more);
-      later = λ j d h l. y.later here j d h (omega arith);
-      few = y.few here g.few;
-      none_left = y.none_left;
-    }
+  pub way-within : m ≤ length b
+  way-within = around_within here.around
 
--- a run on the way
-pub way_run : {b₀ b b' f₀ f : List ℕ} {m c now x y : ℕ} {q : Progress} → now < word → AllOnTheWay b₀ b f₀ f m c now x q → RunExpires b b' f m c now x y
-    → AllOnTheWay b₀ b' f₀ f m c now y q
-way_run {now = now} {x} {y} w a run st ps o count =
-    let g = a st ps o count in
-    let t = g.table in
-    let z = run.goes (on_table t st) g.places g.apart (count ∙ same_long ps g.places g.hashes_same) in
-    let went = run_went g.apart (within x y) w z.alone in
-    record {
-      table = fail_each now (due_run now x y t) t;
-      places = g.places;
-      apart = z.apart;
-      hashes_same = g.hashes_same;
-      going = expiring_run went run.least g.apart.sound.bounded.ordered g.going;
-      later = λ j d h l. g.later j d h (omega (arith, run.least));
-      few = g.few;
-      none_left = λ i. went.spent (g.none_left i);
-    }
+  pub way-kept : Kept (take m b)
+  way-kept = front_keeps here.around.front
 
-pub way-ends : {b₀ b f₀ f : List ℕ} {m c now x : ℕ} {q : Progress} → q.noted ≤ c → AllOnTheWay b₀ b f₀ f m c now x q → Tells (take m b) (λ t. due_from now x t ≡ [])
-    → ExpiresAll b₀ b f₀ f m c now q.noted
-way-ends {b = b} {f = f} {m} {now = now} {x} {q} l a d = record {
+  pub way-pends : PendsIf e.later (take m b) e
+  way-pends i = record { state = bare_state (on_table here.table p.state); now_table = bare here.table; pending = here.around.front.later i }
+
+-- ---- an owner
+
+module _ {b₀ b f₀ f : List ℕ} {m c now x low : ℕ} {e : Delay} {k : Key} {n : ℕ} {q : Progress} (a : AllOnTheWay b₀ b f₀ f m c now x e q) (l : Lowest e.later low)
+    (next : DueNext (take m b) low now x k n) where
+  module _ (st : State) (ps : List Place) (o : Apart b₀ f₀ m st (resting ps)) (count : c ≡ length ps) where
+    abbrev way : OnTheWay now st ps b f m x e q
+    way = a st ps o count
+
+    abbrev t : Table
+    t = way.table
+
+    abbrev told : Basis (take m b) low now x (bare_state (on_table t st)) (bare t)
+    told = basis way.around.front now x l
+
+    abbrev leads : Leads low now x k n told.base
+    leads = next.first (on_table told.base (bare_state (on_table t st))) told.sound told.writes
+
+    pub next-due : due_from now x t ≡ record { key = k; connection = n } ∷ leads.rest
+    next-due = sym (due_from_bare now x t) ∙ sym told.same ∙ leads.is
+
+    pub next-owns : owner_is n (at k t).owner ≡ true
+    next-owns = let s = way.around.sound in due-owns now x 0 t (record { key = k; connection = n }) leads.rest s.bounded.ordered s.bounded.lawful next-due
+
+    pub next-peer : Peer n
+    next-peer = let s = way.around.sound in (due_first now x 0 t (record { key = k; connection = n }) leads.rest s.bounded.ordered s.bounded.lawful next-due).typed.peer
+
+    pub next-expiring : OwnerExpiring b f m c e k n q.spent
+    next-expiring = record { state = on_table t st; places = way.places; around = way.around; count = count ∙ same_long ps way.places way.hashes_same; own = next-owns; none_left = way.none_left }
+
+  pub way-expiring : Rested b₀ f₀ m c → OwnerExpiring b f m c e k n q.spent
+  way-expiring p = next-expiring p.state p.places p.apart p.count
+
+  pub way-peer : Rested b₀ f₀ m c → Peer n
+  way-peer p = next-peer p.state p.places p.apart p.count
+
+  pub way_goes : {b' f' : List ℕ} {e' : Delay} {q' : Progress} → now < word → Expires b b' f f' m c e e' k n now q q' → AllOnTheWay b₀ b' f₀ f' m c now (place k + 1) e' q'
+  way_goes {b'} {f'} {e'} {q'} w one st ps o count =
+      let g = way st ps o count in
+      let s = g.around.sound in
+      let y = one.goes (on_table g.table st) g.places g.around (count ∙ same_long ps g.places g.hashes_same) (next-owns st ps o count) g.none_left in
+      let t₁ = (expire_one (limits_of st) now k n g.table).table in
+      let ks₁ = (expire_one (limits_of st) now k n g.table).keys in
+      let here : ClearAt (place k) g.places = λ j d h l. g.later j d h (omega (arith, next.from)) in
+      let more = expiring_more g.going (record { key = k; connection = n }) _ w s.bounded (next-due st ps o count) in
+      record {
+        table = t₁;
+        places = y.places;
+        around = y.around;
+        hashes_same = y.hashes_same ∙ g.hashes_same;
+        going = subst (λ (ks : List Key). Expiring (limits_of st) now (expired now st) (place k + 1) t₁ ks) (sym (y.keys here)) (subst (λ (i : ℕ). Expiring (limits_of st) now (expired now st) i t₁
+            (noted g.places ++ ks₁)) (sym (add-one (place k))) more);
+        later = λ j d h l. y.later here j d h (omega arith);
+        few = y.few here g.few;
+        none_left = y.none_left;
+      }
+
+-- ---- all
+
+pub way-ends : {b₀ b b' v f₀ f : List ℕ} {m c now x low : ℕ} {e : Delay} {q : Progress} → q.noted ≤ c → AllOnTheWay b₀ b f₀ f m c now x e q → Lowest e.later low
+    → Tells (take m b) (λ t. still_from low now x t ≡ []) → Ends (take m b) v e → length v ≡ length (take m b) → length b' ≡ length b → b' ≡ v ++ drop m b → ExpiresAll b₀ b' f₀ f m c now q.noted
+way-ends {b = b} {b'} {v} {f = f} {m} {now = now} {x} {e = e} {q} l a low d ends nv nb again = record {
   most = l;
   goes = λ st ps o n.
       let g = a st ps o n in
       let t = g.table in
-      let e = expiring_end g.going (sym (due_from_bare now x t) ∙ d (bare_state (on_table t st)) (sound-bare g.apart.sound) g.apart.writes) in
+      let u = basis g.around.front now x low in
+      let z = expiring_end g.going (sym (due_from_bare now x t) ∙ sym u.same ∙ d (on_table u.base (bare_state (on_table t st))) u.sound u.writes) in
+      let w = around_within g.around in
       record {
         places = g.places;
-        apart = subst (λ (y : Table). Apart b f m (on_table y st) g.places) e.1 g.apart;
+        apart = subst (λ (y : Table). Apart b' f m (on_table y st) g.places) z.1 (record {
+          sound = g.around.sound;
+          size = g.around.size;
+          long = nb ∙ g.around.long;
+          first_long = g.around.first_long;
+          writes = subst (λ (y : List ℕ). Writes y (bare_state (on_table t st))) (sym (ap (take m) again ∙ front_is b v m w nv)) (ends (bare_state (on_table t st)) (bare t) g.around.front);
+          slots = slots_rest (ap (drop m) again ∙ rest_stays b v m w nv) g.around.slots;
+          lives = g.around.lives;
+          ascend = g.around.ascend;
+          short = g.around.short;
+        });
         count = n ∙ same_long ps g.places g.hashes_same;
         few = g.few;
-        keys = e.0;
+        keys = z.0;
       };
 }

@@ -1,11 +1,9 @@
 pub mod Overdue
 pub mod BareDue
+pub mod StillDue
 pub mod RowsDue
 pub mod NextDue
 pub mod Notings
-pub mod Runs
 pub mod AllExpired
-pub mod Readying
-pub mod RunRows
 pub mod Whole
 pub mod Planned

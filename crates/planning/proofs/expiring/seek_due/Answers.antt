@@ -6,4 +6,4 @@ use Rattle.planning.proofs.expiring.seek_due.Goals as goal
 
 pub loop-i-preserved : goal.loop-i-preserved
 loop-i-preserved c = λ f x w. c.loop-i.invariant f x w
-    ∙ pass-row c.args.clock (omega (arith, c.loop-i-test.true, c.rows-i-end.ensures)) c.row_at-r.ensures (sym c.is_due.ensures ∙ c.if-is_due.false) f x w
+    ∙ pass-row c.args.low c.args.clock (omega (arith, c.loop-i-test.true, c.rows-i-end.ensures)) c.row_at-r.ensures (sym c.is_still.ensures ∙ c.if-is_still.false) f x w

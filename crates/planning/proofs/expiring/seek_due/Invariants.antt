@@ -8,4 +8,4 @@ use Rattle.planning.specs.Expiring.{due_rows}
 use Rattle.planning.proofs.expiring.seek_due.Given as goal
 
 abbrev pub invariant-loop-i : goal.invariant-loop-i
-invariant-loop-i l = (f : Flat) (x : ℕ) → Shows l.s f → due_rows l.clock x (drop l.from f.rows) ≡ due_rows l.clock x (drop l.i f.rows)
+invariant-loop-i l = (f : Flat) (x : ℕ) → Shows l.s f → due_rows l.low l.clock x (drop l.from f.rows) ≡ due_rows l.low l.clock x (drop l.i f.rows)
