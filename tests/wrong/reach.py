@@ -85,10 +85,12 @@ class Crate:
             return True
 
     def changed(self, replacements):
-        """The declarations that replacements change, each with its new words; a text that is no declaration's changes all of its file."""
+        """The declarations that replacements change, each with its new words."""
         found = {}
         for path, old, new in replacements:
-            names = {name for name, line, _ in owned_lines(self.text(path)) if old in line} or set(self.declarations(path))
+            names = {name for name, line, _ in owned_lines(self.text(path)) if old in line}
+            if not names:
+                raise Unclear(old)      # as of an import
             for name in names:
                 found.setdefault((path, name), set()).update(words_of(new))
         return found
