@@ -1,7 +1,6 @@
-"""asked.py COPY EDIT..: what the check of a copy of a crate that has these edits is asked for, a function a line: first a control, which no edit names and
-which must be proved in that very check, then the functions whose facts the edits name. A law is no function's: the control's proof in the copy is made to import
-the file of each law that is named, so that it is read. What else the crate has may go unread: a fact rests on what its own file imports, and all of that is read.
-Nothing is printed if an edit names no fact: then the whole crate is to be checked."""
+"""asked.py COPY EDIT..: what the check of a copy of a crate that has these edits is asked for, a function a line: those whose facts the edits name. A law is no
+function's: the proof of one that no edit names is made to import, in the copy, the file of each law that is named, so that it is read. What else the crate has may
+go unread: a fact rests on what its own file imports, and all of that is read. Nothing is printed if an edit names no fact: then the whole crate is to be checked."""
 import glob
 import os
 import re
@@ -33,11 +32,10 @@ def asked(copy, edits):
     if "" in named:
         return []
     wanted = sorted({batches.function_of(fact) for fact in named} - {None})
-    ends = {function.split("::")[-1] for function in wanted}
-    control = next(function for function in functions(copy) if function.split("::")[-1] not in ends)
     laws = sorted({fact.split()[0].replace("/", ".") for fact in named if not batches.function_of(fact)})
     if laws:
-        answers, before = os.path.join(copy, "proofs", *control.split("::"), "Answers.antt"), ""
+        importing = next(function for function in functions(copy) if function not in wanted)
+        answers, before = os.path.join(copy, "proofs", *importing.split("::"), "Answers.antt"), ""
         os.makedirs(os.path.dirname(answers), exist_ok=True)
         if os.path.exists(answers):
             with open(answers, encoding="utf-8") as file:
@@ -45,7 +43,8 @@ def asked(copy, edits):
         with open(answers, "w", encoding="utf-8") as file:
             file.writelines(f"use Rattle.{facts.parts(edits[0])[0]}.{law} as law_{at}\n" for at, law in enumerate(laws))
             file.write(before)
-    return [control] + wanted
+        wanted.append(importing)
+    return wanted
 
 
 if __name__ == "__main__":
