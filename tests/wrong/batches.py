@@ -3,7 +3,7 @@ the batch's kind:
 `bodies`: each edit changes the body of one function and names a fact of that function's own proof, and the functions differ. A proof rests on its function's body
 and on contracts, and on no other body.
 `laws`: each edit changes specs and proofs and names a law, and nothing that another edit of the batch changes is reached from that law (reach.py).
-`alone`: one edit of something else, as of a contract or a constant, or with no fact.
+`alone`: one edit of something else, as of a contract or a constant. `whole`: one that names no fact, which may be refused anywhere.
 batches.py --others LOG EDIT..: the facts that were refused in the check of a batch and are none of its edits' doing; there must be none. Those of bodies are
 facts of other functions, those of laws reach nothing that is changed."""
 import functools
@@ -81,14 +81,16 @@ def law(edit):
 
 
 def kind(edit):
+    if not parts(edit)[1]:
+        return "whole"
     return "bodies" if body(edit) else "laws" if law(edit) else "alone"
 
 
 def apart(one, other):
     """Whether two edits may be checked at once."""
-    if kind(one) != kind(other) or kind(one) == "alone":
-        return False
-    return body(one) != body(other) if kind(one) == "bodies" else reach.apart(law(one), law(other))
+    if kind(one) == kind(other) == "bodies":
+        return body(one) != body(other)
+    return kind(one) == kind(other) == "laws" and reach.apart(law(one), law(other))
 
 
 def others(log, edits):
