@@ -6,7 +6,7 @@ import re
 
 WORD = re.compile(r"[^\s(){}\[\],;.«»]+")
 USE = re.compile(r"\s*(?:pub )?use (\S*?)\.?(\{.*\})?(?: as .*)?$")
-BEFORE_A_NAME = ("pub", "abbrev", "unfoldable", "record", "data")
+BEFORE_A_NAME = ("pub", "abbrev", "unfoldable", "record", "data", "ruleset")
 PICKING = {"search", "grind", "simp", "auto"}
 
 
@@ -34,8 +34,8 @@ def owned_lines(text):
             continue
         if indent == (modules[-1][0] + 2 if modules else 0) and not goes_on:
             name = next(word for word in WORD.findall(bare) if word not in BEFORE_A_NAME)
-        if name is None or "◌" in name:
-            raise Unclear(line)     # an operator of the crate's own, whose name no text has
+        if name in (None, "use") or "◌" in name:
+            raise Unclear(line)     # an import over several lines; an operator of the crate's own, whose name no text has
         yield name, line, words_of(line).union(*(words for _, words in modules))
 
 
