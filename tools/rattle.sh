@@ -25,11 +25,3 @@ rattle_on() { # VERB NAME SOURCE [WORDS..]
     words+=(--antt-project "$kit/rattle/logic/antt-project.json" --logic-built "$kit/logic_built")
     (cd "$2" && shift 2 && "$kit/bin/rattle" "$verb" "${words[@]}" "$@")
 }
-
-# The name of the folder in which this build of rattle keeps the modules that it has checked.
-modules_folder() { # ROOM
-    mkdir -p "$1/probe/src"
-    echo 'pub fn seven() -> usize { 7 }' >"$1/probe/src/lib.rt"
-    rattle_on check probe "$1/probe" --incremental "$1/probe/checked" >/dev/null 2>&1
-    basename "$1"/probe/checked/antt-checked*
-}

@@ -36,7 +36,7 @@ def errors(edit, text):
     """The names of the declarations with an error of their own in the lines of a log, in order, each also with the field that the error stands at."""
     crate, names = parts(edit)[0], []
     for name, ending, line, column, declaration, rest in (match.groups() for match in map(ERROR.match, text) if match):
-        if "was not admitted" in rest:
+        if re.search("was not admitted|(?:was|were) not checked", rest):
             continue
         names.append(f"{name} {declaration}" if declaration else f"{name}:{line}:{column}")
         field = FIELD.search(before(f"crates/{crate}/{name}{ending}", int(line), int(column)))
