@@ -19,6 +19,7 @@ use Rattle.machine.specs.Step.{perform, restored, carry_out, step_if, step}
 use Rattle.machine.proofs.Tests.{test, by_test}
 use Rattle.store.specs.Image.{need_of}
 
+-- of the first call, and the same of each other
 pub need_kept : (a : Ask) (s : State) → need_of (perform a s).state ≡ need_of s
 unfolding perform plan
 need_kept (Announce c) s = refl
