@@ -75,6 +75,8 @@ ANSWERED = {
     ("passed",): ("Owned<'_>", "Owned { passed, owners: Owners::new(&self.answer, hashes.len() / 32) }"),
     ("written",): ("&[u8]", "&self.answer[..written as usize]"),
 }
+# What a method says otherwise than the function's comment, or not at all.
+PHRASES = ((" Carried out, it replies 1.", ""), (" The store is only read.", ""), ("The reply is 0 unless", "False unless"))
 # What a method says where the function's comment speaks of the answer's bytes.
 SAID = {
     "arrange": "What a claim has taken, by ascending connection, then in claim order. A t item of a marked request turns v for a witness connection.",
@@ -82,20 +84,12 @@ SAID = {
     "disconnected": "The connection leaves every request that it is a candidate of.",
     "failed_with_parents": "failed, and the parents of the request are requested of the connection. The answer has the key and those of the parents that are kept;"
     " none where failed would be false.",
-    "unclaim": "The owner gives the request back and stays a candidate.",
-    "forget": "The request at the key goes.",
-    "forget_known": "The transaction of the request at the key is known: the request goes, and its parents are announced for its owner. It stays if a package is"
-    " still to come of it.",
     "announce": "A connection can deliver an item. Whether it is kept.",
-    "failed": "The owner of the request at the key failed to deliver. False unless the connection owns it and its package is not Enqueued.",
-    "failed_package_info": "failed, of a connection that is asked for package info. False unless it is.",
     "package_info_owner": "The connection that is asked for package info of the request at the key, and in time.",
     "solicit_package_info": "The connection is asked for the package info of the transaction, whose parents are given. False if the hash is owned, if the connection"
     " owns 100 requests, or if it is no candidate and is not kept as one. [`Error::NoPlace`] if it would be true, and all package places are held.",
     "claim_package": "The package info of the request has come: its owner has until the deadline to get the package, whose wtxids are given. False unless they are 1"
     " to 100.",
-    "begin_package_resolution": "The package itself has come: it waits in the queue from now on, and no deadline ends it. False unless combined hash and wtxids are"
-    " those that were claimed, in their order.",
     "release_package": "The package in the queue, if the connection owns it, is given up: the connection leaves, and is asked for the parents. The answer has the key"
     " and those of the parents that are kept; none where there is no such package.",
     "failed_package_claims": "The claims of the connection whose packages have one of the combined hashes have failed; of two with one hash, that at the greater key."
@@ -105,16 +99,13 @@ SAID = {
     "sweep": "The next keys after the known cursor, at most 1,024; the cursor becomes the last of them.",
     "poll_gate": "Whether a poll is due. If it is, the next one is 100 milliseconds later.",
     "announce_transactions": "The connection announces the items, with a priority each. source: a wtxid source exists.",
-    "transaction_response_completed": "A response of the connection is complete: what it still owns of this transaction, under either identity, has failed.",
     "transaction_not_found": "The connection does not have the items: what it owns of them has failed, and so have its claims to the packages among them. The answer"
     " has the keys of what failed, followed by those of the parents that are kept.",
     "plan_given": "plan over these keys alone; the ready cursor stays.",
     "request_parent": "announce, of a parent that is missing: a connection that is a candidate at the hash already turns preferred, with the smaller ready time and the"
     " smaller priority.",
     "plan": "Which candidate is to be asked for what, by priority: at most 1,025 entries. Owners whose deadline has come fail first.",
-    "sum": "How many announcements are held, how many more fit of unpreferred newcomers and of preferred ones, and how full the tracker is in thousandths.",
     "save": "The listing of the tracker's state: text, a line feed after each line.",
-    "counts": "How many announcements the connection has, and how many requests it owns, deadlines over or not.",
     "owners_of": "Who owns each of the hashes, deadlines over or not, and how many keys were passed. [`Error::WrongHashes`] if they are more than 1,024 or not"
     " in strictly ascending order, byte 31 being the most significant.",
 }
@@ -194,6 +185,13 @@ EXAMPLES = {
         # Ok::<(), tracker::Error>(())
         """,
 }
+
+
+def said(name, comment):
+    """What a method says: the function's comment, or words of its own."""
+    for old, new in PHRASES:
+        comment = comment.replace(old, new)
+    return SAID.get(name, comment)
 
 
 def example_of(name):
@@ -285,7 +283,7 @@ def method(function):
     if answers and not need:
         raise SystemExit(f"{function.name}: the need of its answer is not known")
     call = filled(f"abi::{function.name}({listed(gives)})", RUST_WIDTH, " " * 12, " " * 16).replace("\0", " ")
-    lines = [filled(SAID.get(name, function.comment), RUST_WIDTH - 1, "    /// ", "    /// "), *example_of(name), head]
+    lines = [filled(said(name, function.comment), RUST_WIDTH - 1, "    /// ", "    /// "), *example_of(name), head]
     lines += [f"        self.room({need});"] if answers else []
     lines += ["        " + line for line in first]
     lines += [f"        let store = self.store.{'bytes' if only_reads(function) else 'bytes_mut'}();"]

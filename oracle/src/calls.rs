@@ -2,6 +2,8 @@
 
 use std::cmp::Ordering;
 
+use crate::fields::{Field, Fields};
+
 /// 32 bytes, byte 31 the most significant, ordered by number.
 #[derive(Clone, Copy, Debug, Eq, Hash, PartialEq)]
 pub struct Hash(pub [u8; 32]);
@@ -89,130 +91,104 @@ pub struct Entry {
     pub candidate: Candidate,
 }
 
-/// Every call but opening, with its arguments.
-#[derive(Clone, Debug, Eq, PartialEq)]
-pub enum Call {
-    Announce {
-        candidate: Candidate,
-    },
-    RequestParent {
-        candidate: Candidate,
-    },
-    SolicitPackageInfo {
-        connection: u64,
-        hash: Hash,
-        now: u64,
-        parents: Vec<Hash>,
-    },
-    Failed {
-        key: Key,
-        connection: u64,
-        now: u64,
-    },
-    Unclaim {
-        key: Key,
-        connection: u64,
-    },
-    ClaimPackage {
-        connection: u64,
-        hash: Hash,
-        combined: Hash,
-        now: u64,
-        wtxids: Vec<Hash>,
-    },
-    BeginPackageResolution {
-        connection: u64,
-        hash: Hash,
-        combined: Hash,
-        now: u64,
-        wtxids: Vec<Hash>,
-    },
-    ReleasePackage {
-        connection: u64,
-        hash: Hash,
-        now: u64,
-    },
-    Plan {
-        now: u64,
-        keys: Option<Vec<Key>>,
-    },
-    Claim {
-        now: u64,
-        checked: Vec<Entry>,
-    },
-    Sweep,
-    Disconnected {
-        connection: u64,
-        now: u64,
-    },
-    Sum,
-    AnnounceParents {
-        connection: u64,
-        now: u64,
-        parents: Vec<Hash>,
-    },
-    FailedPackageClaims {
-        connection: u64,
-        now: u64,
-        combined: Vec<Hash>,
-    },
-    TeardownPackageClaims {
-        now: u64,
-    },
-    Forget {
-        key: Key,
-    },
-    ForgetKnown {
-        key: Key,
-        now: u64,
-    },
-    FailedWithParents {
-        key: Key,
-        connection: u64,
-        now: u64,
-    },
-    FailedPackageInfo {
-        key: Key,
-        connection: u64,
-        now: u64,
-    },
-    PackageInfoOwner {
-        key: Key,
-        now: u64,
-    },
-    AnnounceTransactions {
-        connection: u64,
-        now: u64,
-        preferred: bool,
-        wtxid_source: bool,
-        items: Vec<(Item, u64)>,
-    },
-    TransactionResponseCompleted {
-        connection: u64,
-        txid: Hash,
-        wtxid: Hash,
-        now: u64,
-    },
-    TransactionNotFound {
-        connection: u64,
-        now: u64,
-        items: Vec<Item>,
-    },
-    PollGate {
-        now: u64,
-    },
-    Arrange {
-        taken: Vec<Entry>,
-        witness: Vec<u64>,
-    },
-    Part {
-        arranged: Vec<Entry>,
-        connection: u64,
-    },
+/// Whether a field names connection 0 (refusal 4). Entries of a checked or taken list are no such names.
+macro_rules! names_0 {
+    (connection $value:ident) => {
+        *$value == 0
+    };
+    (candidate $value:ident) => {
+        $value.connection == 0
+    };
+    (witness $value:ident) => {
+        $value.contains(&0)
+    };
+    ($other:ident $value:ident) => {{
+        let _ = $value;
+        false
+    }};
+}
+
+/// The clock, if a field is that.
+macro_rules! clock {
+    (now $value:ident) => {
+        Some(*$value)
+    };
+    ($other:ident $value:ident) => {{
+        let _ = $value;
+        None
+    }};
+}
+
+/// Of each call its word, its name, its arguments in the order in which a line has them.
+macro_rules! calls {
+    ($($(#[$about:meta])* $word:literal $call:ident $({ $($field:ident: $kind:ty),* $(,)? })?;)*) => {
+        /// Every call but opening, with its arguments.
+        #[derive(Clone, Debug, Eq, PartialEq)]
+        pub enum Call {
+            $($(#[$about])* $call $({ $($field: $kind),* })?,)*
+        }
+
+        impl Call {
+            fn read_listed(word: &[u8], fields: &mut Fields) -> Option<Self> {
+                $(if word == $word.as_bytes() {
+                    return Some(Self::$call { $($($field: Field::read(fields)?),*)? });
+                })*
+                None
+            }
+
+            fn listed_line(&self) -> String {
+                let fields = match self {
+                    $(Self::$call { $($($field),*)? } => vec![$word.to_owned(), $($(Field::text($field)),*)?],)*
+                };
+                fields.join(",")
+            }
+
+            /// Refusal 4: a connection that the caller names is 0.
+            pub fn names_connection_0(&self) -> bool {
+                match self {
+                    $(Self::$call { $($($field),*)? } => false $($(|| names_0!($field $field))*)?,)*
+                }
+            }
+
+            /// The `now` of the call, the only time that refusal 5 tests.
+            pub fn clock(&self) -> Option<u64> {
+                match self {
+                    $(Self::$call { $($($field),*)? } => None $($(.or(clock!($field $field)))*)?,)*
+                }
+            }
+        }
+    };
+}
+
+calls! {
+    "ann" Announce { candidate: Candidate };
+    "par" RequestParent { candidate: Candidate };
+    "sol" SolicitPackageInfo { connection: u64, hash: Hash, now: u64, parents: Vec<Hash> };
+    "bad" Failed { key: Key, connection: u64, now: u64 };
+    "off" Unclaim { key: Key, connection: u64 };
+    "clm" ClaimPackage { connection: u64, hash: Hash, combined: Hash, now: u64, wtxids: Vec<Hash> };
+    "beg" BeginPackageResolution { connection: u64, hash: Hash, combined: Hash, now: u64, wtxids: Vec<Hash> };
+    "rel" ReleasePackage { connection: u64, hash: Hash, now: u64 };
+    "want" Plan { now: u64, keys: Option<Vec<Key>> };
+    "grab" Claim { now: u64, checked: Vec<Entry> };
+    "swp" Sweep;
+    "gone" Disconnected { connection: u64, now: u64 };
+    "sum" Sum;
+    "kin" AnnounceParents { connection: u64, now: u64, parents: Vec<Hash> };
+    "lost" FailedPackageClaims { connection: u64, now: u64, combined: Vec<Hash> };
+    "tear" TeardownPackageClaims { now: u64 };
+    "drop" Forget { key: Key };
+    "known" ForgetKnown { key: Key, now: u64 };
+    "fail" FailedWithParents { key: Key, connection: u64, now: u64 };
+    "info" FailedPackageInfo { key: Key, connection: u64, now: u64 };
+    "who" PackageInfoOwner { key: Key, now: u64 };
+    "inv" AnnounceTransactions { connection: u64, now: u64, preferred: bool, wtxid_source: bool, items: Vec<(Item, u64)> };
+    "done" TransactionResponseCompleted { connection: u64, txid: Hash, wtxid: Hash, now: u64 };
+    "nfd" TransactionNotFound { connection: u64, now: u64, items: Vec<Item> };
+    "poll" PollGate { now: u64 };
+    "ship" Arrange { witness: Vec<u64>, taken: Vec<Entry> };
     /// Document 02, request e: no call of the Rust.
-    OwnersOf {
-        hashes: Vec<Hash>,
-    },
+    "whose" OwnersOf { hashes: Vec<Hash> };
 }
 
 /// Who owns a hash: the key under which it is owned, the connection, the deadline.
@@ -247,71 +223,19 @@ pub const MAX_PARENTS: usize = 100;
 pub const MAX_ASKED_HASHES: usize = 1_024;
 
 impl Call {
-    /// Refusal 4: a connection that the caller names is 0. Entries of a checked, taken
-    /// or arranged list are no such names.
-    pub fn names_connection_0(&self) -> bool {
-        match self {
-            Self::Announce { candidate } | Self::RequestParent { candidate } => candidate.connection == 0,
-            Self::SolicitPackageInfo { connection, .. }
-            | Self::Failed { connection, .. }
-            | Self::Unclaim { connection, .. }
-            | Self::ClaimPackage { connection, .. }
-            | Self::BeginPackageResolution { connection, .. }
-            | Self::ReleasePackage { connection, .. }
-            | Self::Disconnected { connection, .. }
-            | Self::AnnounceParents { connection, .. }
-            | Self::FailedPackageClaims { connection, .. }
-            | Self::FailedWithParents { connection, .. }
-            | Self::FailedPackageInfo { connection, .. }
-            | Self::AnnounceTransactions { connection, .. }
-            | Self::TransactionResponseCompleted { connection, .. }
-            | Self::TransactionNotFound { connection, .. }
-            | Self::Part { connection, .. } => *connection == 0,
-            Self::Arrange { witness, .. } => witness.contains(&0),
-            Self::Plan { .. }
-            | Self::Claim { .. }
-            | Self::Sweep
-            | Self::Sum
-            | Self::TeardownPackageClaims { .. }
-            | Self::Forget { .. }
-            | Self::ForgetKnown { .. }
-            | Self::PackageInfoOwner { .. }
-            | Self::PollGate { .. }
-            | Self::OwnersOf { .. } => false,
+    /// The call of a word, whose arguments stand on the line.
+    pub fn read(word: &[u8], fields: &mut Fields) -> Option<Self> {
+        match word {
+            b"plan" => Some(Self::Plan { now: Field::read(fields)?, keys: None }),
+            _ => Self::read_listed(word, fields),
         }
     }
 
-    /// The `now` of the call, the only time that refusal 5 tests.
-    pub fn clock(&self) -> Option<u64> {
+    /// The line that asks for it.
+    pub fn line(&self) -> String {
         match self {
-            Self::SolicitPackageInfo { now, .. }
-            | Self::Failed { now, .. }
-            | Self::ClaimPackage { now, .. }
-            | Self::BeginPackageResolution { now, .. }
-            | Self::ReleasePackage { now, .. }
-            | Self::Plan { now, .. }
-            | Self::Claim { now, .. }
-            | Self::Disconnected { now, .. }
-            | Self::AnnounceParents { now, .. }
-            | Self::FailedPackageClaims { now, .. }
-            | Self::TeardownPackageClaims { now }
-            | Self::ForgetKnown { now, .. }
-            | Self::FailedWithParents { now, .. }
-            | Self::FailedPackageInfo { now, .. }
-            | Self::PackageInfoOwner { now, .. }
-            | Self::AnnounceTransactions { now, .. }
-            | Self::TransactionResponseCompleted { now, .. }
-            | Self::TransactionNotFound { now, .. }
-            | Self::PollGate { now } => Some(*now),
-            Self::Announce { .. }
-            | Self::RequestParent { .. }
-            | Self::Unclaim { .. }
-            | Self::Sweep
-            | Self::Sum
-            | Self::Forget { .. }
-            | Self::Arrange { .. }
-            | Self::Part { .. }
-            | Self::OwnersOf { .. } => None,
+            Self::Plan { now, keys: None } => format!("plan,{now}"),
+            _ => self.listed_line(),
         }
     }
 

@@ -207,9 +207,6 @@ impl Machine {
             }
             Call::OwnersOf { hashes } => self.owners_of(hashes),
             Call::Arrange { taken, witness } => Reply::Entries(self.arranged(taken, witness)),
-            Call::Part { arranged, connection } => Reply::Entries(
-                arranged.iter().filter(|entry| entry.candidate.connection == *connection).copied().collect(),
-            ),
             _ => self.wrapper(call),
         }
     }

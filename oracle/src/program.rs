@@ -72,7 +72,7 @@ impl Program {
             Line::Call(call) => call,
             Line::Take { now } => Call::Claim { now, checked: self.planned.clone() },
             Line::Send { witness } => Call::Arrange { taken: self.taken.clone(), witness },
-            Line::Part { connection } => Call::Part { arranged: self.arranged.clone(), connection },
+            Line::Part { connection } => return write::reply(&part(&self.arranged, connection)),
             Line::Extra(Extra::Dump) => return write::dump(&machine.state()),
             Line::Open { .. } | Line::Extra(Extra::Load(_)) => unreachable!("these start a tracker"),
         };
@@ -85,4 +85,14 @@ impl Program {
         }
         write::reply(&reply)
     }
+}
+
+/// The part of an arranged list that is the connection's: no call of a tracker.
+fn part(arranged: &[Entry], connection: u64) -> Reply {
+    if connection == 0 {
+        return Reply::Refused(4);
+    }
+    Reply::Entries(
+        arranged.iter().filter(|entry| entry.candidate.connection == connection).copied().collect(),
+    )
 }

@@ -39,7 +39,7 @@ pub fn candidate(candidate: &Candidate) -> String {
     )
 }
 
-fn entry(entry: &Entry) -> String {
+pub fn entry(entry: &Entry) -> String {
     format!("{},{}", key(entry.key), candidate(&entry.candidate))
 }
 
@@ -49,7 +49,7 @@ fn list(fields: Vec<String>) -> String {
 }
 
 /// A count, then the fields.
-fn counted(count: u64, fields: impl Iterator<Item = String>) -> String {
+pub fn counted(count: u64, fields: impl Iterator<Item = String>) -> String {
     std::iter::once(count.to_string()).chain(fields).collect::<Vec<_>>().join(",")
 }
 

@@ -170,7 +170,7 @@ def listed_words(root):
 
 def by_bytes(root):
     """The calls of the runs by bytes."""
-    return set(re.search(r"^listed! \{\n(.*?)^\}", read(root, "tests/bytes/src/calls.rs"), re.M | re.S)[1].replace(",", " ").split())
+    return set(re.findall(r"^    (\w+)", re.search(r"^listed! \{\n(.*?)^\}", read(root, "tests/bytes/src/calls.rs"), re.M | re.S)[1], re.M))
 
 
 def recorded(root):

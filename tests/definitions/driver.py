@@ -1,6 +1,6 @@
 """The machine's definitions as an event program.
 
-A line is read into a call, `Step.step` answers it, its reply is written. `CALLS` says how a word's fields become the call's
+A line is read into a call, `Step.step` answers it, its reply is written. `lines.WORDS` says how a word's fields become the call's
 arguments and `Driver.reply` how a reply becomes text; nothing else here knows the definitions.
 
   driver.py [--specs DIR] [--big] [--extra] [--states] [--coverage]  < events > answers
@@ -25,20 +25,8 @@ EVENT_L, EVENT_Q = 100, 2
 LINE_BUFFER = 65_536
 SPARE = 3               # bytes of a buffer past its need, which must stay
 KEY, ENTRY, OWNER = 40, 112, 24     # bytes in a buffer
-
-# word: constructor of Ask, and its arguments by the places of the line's fields; "b" is the answer buffer, "c" a candidate of all fields
-CALLS = {
-    "ann": ("Announce", "c"), "par": ("RequestParent", "c"), "bad": ("Failed", (0, 1, 2)), "off": ("Unclaim", (0, 1)),
-    "sol": ("SolicitPackageInfo", (0, 1, 3, 2)), "clm": ("ClaimPackage", (0, 1, 2, 4, 3)), "beg": ("BeginPackageResolution", (0, 1, 2, 4, 3)),
-    "kin": ("AnnounceParents", (0, 2, 1, "b")), "lost": ("FailedPackageClaims", (0, 2, 1, "b")), "plan": ("Plan", (0, None, "b")),
-    "want": ("Plan", (0, 1, "b")), "take": ("Claim", (0, 1, "b")), "grab": ("Claim", (0, 1, "b")), "swp": ("Sweep", ("b",)),
-    "gone": ("Disconnected", (0, 1, "b")), "rel": ("ReleasePackage", (0, 1, 2, "b")), "tear": ("TeardownPackageClaims", (0,)),
-    "drop": ("Forget", (0,)), "known": ("ForgetKnown", (0, 1)), "fail": ("FailedWithParents", (0, 1, 2, "b")),
-    "info": ("FailedPackageInfo", (0, 1, 2)), "who": ("PackageInfoOwner", (0, 1)), "inv": ("AnnounceTransactions", (0, 1, 2, 3, 4)),
-    "done": ("TransactionResponseCompleted", (0, 1, 2, 3)), "nfd": ("TransactionNotFound", (0, 2, 1, "b")), "poll": ("PollGate", (0,)),
-    "send": ("Arrange", (0, 1, "b")), "ship": ("Arrange", (0, 1, "b")), "sum": ("Sum", ()),
-    "whose": ("OwnersOf", (0, "b")),
-}
+# word: constructor of Ask, and its arguments (lines.WORDS)
+CALLS = {word: (name, places) for word, (_, name, places) in {**lines.WORDS, **lines.EXTRA}.items() if name}
 
 
 def needs(word, fields, state):
@@ -124,12 +112,9 @@ class Driver:
     def call(self, word, fields):
         name, places = CALLS[word]
         buffer = None
-        if places == "c":
-            args = [self.text.Candidate(*fields)]
-        else:
-            if "b" in places:
-                buffer = self.room(needs(word, fields, self.state))
-            args = [buffer if p == "b" else None if p is None else Some(fields[p]) if word == "want" and p == 1 else fields[p] for p in places]
+        if "b" in places:
+            buffer = self.room(needs(word, fields, self.state))
+        args = [self.argument(place, fields, buffer) for place in places]
         ask = self.asks[name]
         out = self.step(0, self.on(ask(*args) if args else ask), self.state)
         refused = out.reply.NAME == "Refused"
@@ -140,6 +125,14 @@ class Driver:
         if not refused:
             self.keep(word, out.reply)
         return self.reply(out.reply)
+
+    def argument(self, place, fields, buffer):
+        """An argument by its letter (lines.WORDS)."""
+        if place == "c":
+            return self.text.Candidate(*fields)
+        if place == "s":
+            return Some(fields[1])
+        return buffer if place == "b" else None if place == "-" else fields[int(place)]
 
     def keep(self, word, reply):
         if word in ("plan", "want"):

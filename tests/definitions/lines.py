@@ -8,14 +8,24 @@ HASH = re.compile(rb"(0|[1-9a-f][0-9a-f]{0,63})\Z")
 WORD = 2 ** 64
 TYPES = {"t": 1, "v": 0x40000001, "w": 5}
 
-# The fields after each word: N number, B bool, H hash, K key, I item, P item and priority, E entry; * a list of what follows.
-FORMS = {
-    "open": "NN", "ann": "NINBN", "par": "NINBN", "sol": "NHN*H", "bad": "KNN", "off": "KN", "clm": "NHHN*H", "beg": "NHHN*H", "rel": "NHN",
-    "plan": "N", "want": "N*K", "take": "N", "swp": "", "gone": "NN", "sum": "", "kin": "NN*H", "lost": "NN*H", "tear": "N", "drop": "K",
-    "known": "KN", "fail": "KNN", "info": "KNN", "who": "KN", "inv": "NNBB*P", "done": "NHHN", "nfd": "NN*I", "poll": "N", "send": "*N", "part": "N",
-    "whose": "*H",
+# word: its fields, and the call that it asks for: the constructor of Ask and its arguments, if it is one.
+# Fields: N number, B bool, H hash, K key, I item, P item and priority, E entry; * a list of what follows.
+# Arguments: the places of fields; "c" a candidate of all of them, "s" the field 1 as a list that is given, "-" none is given, "b" the answer buffer.
+# The list of `take` and `send`, field 1, is what was kept.
+WORDS = {
+    "open": ("NN", None, ""), "part": ("N", None, ""), "sum": ("", "Sum", ""),
+    "ann": ("NINBN", "Announce", "c"), "par": ("NINBN", "RequestParent", "c"), "kin": ("NN*H", "AnnounceParents", "021b"),
+    "bad": ("KNN", "Failed", "012"), "fail": ("KNN", "FailedWithParents", "012b"), "off": ("KN", "Unclaim", "01"),
+    "drop": ("K", "Forget", "0"), "known": ("KN", "ForgetKnown", "01"),
+    "sol": ("NHN*H", "SolicitPackageInfo", "0132"), "info": ("KNN", "FailedPackageInfo", "012"), "who": ("KN", "PackageInfoOwner", "01"),
+    "clm": ("NHHN*H", "ClaimPackage", "01243"), "beg": ("NHHN*H", "BeginPackageResolution", "01243"), "rel": ("NHN", "ReleasePackage", "012b"),
+    "lost": ("NN*H", "FailedPackageClaims", "021b"), "tear": ("N", "TeardownPackageClaims", "0"), "gone": ("NN", "Disconnected", "01b"),
+    "plan": ("N", "Plan", "0-b"), "want": ("N*K", "Plan", "0sb"), "take": ("N", "Claim", "01b"), "send": ("*N", "Arrange", "01b"),
+    "swp": ("", "Sweep", "b"), "poll": ("N", "PollGate", "0"), "whose": ("*H", "OwnersOf", "0b"),
+    "inv": ("NNBB*P", "AnnounceTransactions", "01234"), "done": ("NHHN", "TransactionResponseCompleted", "0123"), "nfd": ("NN*I", "TransactionNotFound", "021b"),
 }
-EXTRA = {"dump": "", "grab": "N*E", "ship": "*N*E"}
+# The oracle's own.
+EXTRA = {"dump": ("", None, ""), "grab": ("N*E", "Claim", "01b"), "ship": ("*N*E", "Arrange", "01b")}
 
 
 class Unreadable(Exception):
@@ -98,10 +108,10 @@ class Text:
         word = fields.pop().decode("latin-1")
         if extra and word == "load":
             return word, [self.read_state(line.removeprefix(b"load,"))]
-        shapes = FORMS.get(word, EXTRA.get(word) if extra else None)
-        if shapes is None:
+        known = WORDS.get(word, EXTRA.get(word) if extra else None)
+        if known is None:
             raise Unreadable
-        values = [self.listed(s[1], fields) if s[0] == "*" else self.value(s, fields) for s in re.findall(r"\*?\w", shapes)]
+        values = [self.listed(s[1], fields) if s[0] == "*" else self.value(s, fields) for s in re.findall(r"\*?\w", known[0])]
         if fields:
             raise Unreadable
         return word, values

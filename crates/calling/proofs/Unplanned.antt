@@ -30,36 +30,22 @@ use Rattle.printing.proofs.Fitting.{leaves, leaves_is}
 abbrev pub Unplanned : Ask → Type 0
 Unplanned a = (s : State) (l : List Entry) → chosen_or l (perform a s).reply ≡ l
 
--- ---- the words of other calls
+-- ---- the words of other calls: the first, and the same of each other
 
 pub number_unplanned : (w : NumberWord) (v : Values) → Unplanned (number_ask w v)
 unfolding perform
 number_unplanned number.Announce v s l = refl
-number_unplanned number.RequestParent v s l = refl
-number_unplanned number.Failed v s l = refl
-number_unplanned number.Unclaim v s l = refl
-number_unplanned number.Forget v s l = refl
-number_unplanned number.ForgetKnown v s l = refl
-number_unplanned number.Teardown v s l = refl
-number_unplanned number.FailedPackageInfo v s l = refl
-number_unplanned number.PackageInfoOwner v s l = refl
-number_unplanned number.ResponseCompleted v s l = refl
-number_unplanned number.PollGate v s l = refl
+number_unplanned w v s l = refl
 
 pub keys_unplanned : (w : KeysWord) (v : Values) → Unplanned (keys_ask w v)
 unfolding perform
 keys_unplanned keys.Sweep v s l = refl
-keys_unplanned keys.FailedWithParents v s l = refl
-keys_unplanned keys.ReleasePackage v s l = refl
+keys_unplanned w v s l = refl
 
 pub hashes_unplanned : (w : HashesWord) (v : Values) (hs : List ℕ) → Unplanned (hashes_ask w v hs)
 unfolding perform
 hashes_unplanned hashes.SolicitPackageInfo v hs s l = refl
-hashes_unplanned hashes.ClaimPackage v hs s l = refl
-hashes_unplanned hashes.BeginPackageResolution v hs s l = refl
-hashes_unplanned hashes.AnnounceParents v hs s l = refl
-hashes_unplanned hashes.FailedPackageClaims v hs s l = refl
-hashes_unplanned hashes.OwnersOf v hs s l = refl
+hashes_unplanned w v hs s l = refl
 
 pub sum_unplanned : Unplanned Sum
 unfolding perform

@@ -1,4 +1,3 @@
-pub mod Replies
 pub mod Statuses
 pub mod Typed
 pub mod Counts

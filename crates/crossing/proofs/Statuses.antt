@@ -30,7 +30,6 @@ use Rattle.outcome.specs.declared.Figures.{Figures}
 use Rattle.outcome.specs.declared.Departure.{Departure}
 use Rattle.outcome.specs.Refusals.{number_of}
 use Rattle.outcome.proofs.Turns.{never_none}
-use Rattle.crossing.proofs.Replies.{RepliesOne}
 use Rattle.crossing.specs.Status.{StatusIs, NumberHanded, held_out, free_out, preferred_out, permille_out, own_out, parents_out, considered_out, chosen_out, next_out}
 use Rattle.crossing.specs.Status.{told, numbered, figured, Stays, HandsOut, HandsKeys, HandsEntries, HandsDeparture, HandsPlan, HandsOwners, HandsText}
 
@@ -59,6 +58,9 @@ pub hands_out : {c₀ c : Call} (a : Result ℕ Refusal) (was : ℕ) {b z : List
 hands_out {c₀} {c} a was {b} {z} d e q = handed c a was (subst (λ (x : Call). Leaves x b z (reply_of a)) q d) e
 
 -- ---- opening and the calls of which the Rust returns nothing: carried out, they reply 1
+
+abbrev pub RepliesOne : Call → Type 0
+RepliesOne c = (s : State) → (carry_out c s).reply ≡ Number 1
 
 abbrev status_in : Reply → ℕ
 status_in (Refused n) = n
@@ -182,3 +184,7 @@ module _ (clock : ℕ) (asked : Option (List Key)) (u₀ : Buffer) where
       let s = stays (number_of y) in
       rw (e.0.told, e.1, e.2, e.3) (rw (refused-told y _) l, s was, s was', s was'')
   hands-plan (Ok p) was was' was'' l e = rw (e.0.told, e.1, e.2, e.3) (rw (told-next p l) l, tt, tt, tt)
+
+-- ---- the law of each form of reply, as the check finds it for an exported call
+
+pub ruleset handing = (hands_out, hands-keys, hands-entries, hands-owners, hands-text, hands-departure, hands-plan, one_told)

@@ -4,7 +4,7 @@
 // out. Each contract is the one of the public call (crates/public_*), its reply said by these numbers (crates/crossing).
 // The C interface wants a function of its own for each name, with C's types: kinds are numbers, flags bools, and what is handed out goes through one pointer each.
 // So functions of one shape stand side by side; crates/crossing has what they share.
-#![tactic(auto)]
+#![tactic(auto, using(crossing::proofs::Statuses::handing), unfolding(machine::specs::Step::carry_out, machine::specs::Step::perform))]
 
 ghost use Rattle.words.specs.Words.{Decides};
 ghost use Rattle.machine.specs.Call.{Open, On, Sum};

@@ -45,7 +45,7 @@ module _ (b : List ℕ) (e : Effect) where
   told a true w t q = q
   told a false w t q = absurd (t w)
 
-  does-true : (c : Call) → SoundStore b → Does c b e → e ≡ outcome_if true b c
+  pub does-true : (c : Call) → SoundStore b → Does c b e → e ≡ outcome_if true b c
   does-true (Open L Q) w d = d.effect ∙ any_opening L Q d.sound
   does-true (Restore x) w d = d.effect ∙ any_reading x d.sound
   does-true (On a) w d = told a d.sound w d.tested d.effect

@@ -9,9 +9,8 @@ use lib.Dec.{ltb, eqb}
 use borrow.Author.Tests.{ltb-false, eqb-true}
 use Rattle.machine.specs.Limits.{need}
 use Rattle.machine.specs.State.{State}
-use Rattle.machine.specs.Call.{Ask, Announce, RequestParent, Failed, Unclaim, SolicitPackageInfo, ClaimPackage, BeginPackageResolution, AnnounceParents, FailedPackageClaims, Plan}
-use Rattle.machine.specs.Call.{Claim, Sweep, Disconnected, ReleasePackage, TeardownPackageClaims, Forget, ForgetKnown, FailedWithParents, FailedPackageInfo, PackageInfoOwner}
-use Rattle.machine.specs.Call.{AnnounceTransactions, TransactionResponseCompleted, TransactionNotFound, PollGate, Arrange, Sum, OwnersOf, Call, Open, On, sizes_taken, opening_refusal, refusal, Save}
+use Rattle.machine.specs.Call.{Ask, Announce}
+use Rattle.machine.specs.Call.{Call, Open, On, sizes_taken, opening_refusal, refusal}
 use Rattle.machine.specs.Call.{Restore, restore_refusal}
 use Rattle.machine.specs.Plan.{plan}
 use Rattle.machine.specs.Listing.{read_listing}
@@ -20,36 +19,11 @@ use Rattle.machine.specs.Step.{perform, restored, carry_out, step_if, step}
 use Rattle.machine.proofs.Tests.{test, by_test}
 use Rattle.store.specs.Image.{need_of}
 
+-- of the first call, and the same of each other
 pub need_kept : (a : Ask) (s : State) → need_of (perform a s).state ≡ need_of s
 unfolding perform plan
 need_kept (Announce c) s = refl
-need_kept (RequestParent c) s = refl
-need_kept (Failed k n now) s = refl
-need_kept (Unclaim k n) s = refl
-need_kept (SolicitPackageInfo n h hs now) s = refl
-need_kept (ClaimPackage n h c ws now) s = refl
-need_kept (BeginPackageResolution n h c ws now) s = refl
-need_kept (AnnounceParents n hs now b) s = refl
-need_kept (FailedPackageClaims n cs now b) s = refl
-need_kept (Plan now ks b) s = refl
-need_kept (Claim now l b) s = refl
-need_kept (Sweep b) s = refl
-need_kept (Disconnected n now b) s = refl
-need_kept (ReleasePackage n h now b) s = refl
-need_kept (TeardownPackageClaims now) s = refl
-need_kept (Forget k) s = refl
-need_kept (ForgetKnown k now) s = refl
-need_kept (FailedWithParents k n now b) s = refl
-need_kept (FailedPackageInfo k n now) s = refl
-need_kept (PackageInfoOwner k now) s = refl
-need_kept (AnnounceTransactions n now p w os) s = refl
-need_kept (TransactionResponseCompleted n x w now) s = refl
-need_kept (TransactionNotFound n l now b) s = refl
-need_kept (PollGate now) s = refl
-need_kept (Arrange ws l b) s = refl
-need_kept Sum s = refl
-need_kept (OwnersOf hs b) s = refl
-need_kept (Save b) s = refl
+need_kept a s = refl
 
 -- an opening that is not refused has sizes that it takes, and room
 pub opening-fits : (n L Q : ℕ) → opening_refusal n L Q ≡ 0 → (sizes_taken L Q ≡ true) × (need L Q ≤ n)

@@ -5,7 +5,7 @@
 // bytes to itself. This archive is another than the checked one, which has no such function.
 // The C interface wants a function of its own for each name, with C's types: kinds are numbers, flags bools, and what is handed out goes through one pointer each.
 // So the two families are written out, and functions of one shape stand side by side; crates/crossing has what they share.
-#![tactic(auto)]
+#![tactic(auto, using(crossing::proofs::Statuses::handing), unfolding(machine::specs::Step::carry_out, machine::specs::Step::perform))]
 
 ghost use Rattle.machine.specs.Call.{On, Sum};
 ghost use Rattle.store.specs.Image.{SoundStore};

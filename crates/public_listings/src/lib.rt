@@ -14,6 +14,7 @@ pub mod on_sound;
 pub mod verdict;
 
 // The listing of the state that the store's bytes write, in the answer: so many bytes as are counted. The store is only read.
+#[tactic(auto, using(outcome::proofs::Owned::unsound), unfolding(machine::specs::Call::named))]
 pub fn save(s: &[u8], answer: &mut [u8]) -> Result<u64, Refusal>
     ensures { LeavesWith (On (Save answer.old)) s.now s.now answer.new (text_of result) }
 {

@@ -1,4 +1,6 @@
 // The public call of a connection that leaves: disconnected (document 01, "The request machine").
+#![tactic(auto, using(outcome::proofs::Owned::unsound), unfolding(machine::specs::Call::named))]
+
 ghost use Rattle.machine.specs.Call.{On, Disconnected};
 ghost use Rattle.outcome.specs.Outcome.{LeavesWith};
 ghost use Rattle.outcome.specs.Reply.{departure_of};

@@ -1,4 +1,6 @@
 // The public calls on a package: claim_package, begin_package_resolution and release_package (document 01, "The request machine").
+#![tactic(auto, using(outcome::proofs::Owned::unsound), unfolding(machine::specs::Call::named))]
+
 ghost use Rattle.ident.specs.Words.{hash_num};
 ghost use Rattle.machine.specs.Call.{On, ClaimPackage, BeginPackageResolution, ReleasePackage};
 ghost use Rattle.lent_lists.specs.Lists.{hashes_in};

@@ -1,4 +1,6 @@
 // The public calls that give package claims up: forget_known, failed_package_claims and teardown_package_claims (document 01, "The request machine").
+#![tactic(auto, using(outcome::proofs::Owned::unsound), unfolding(machine::specs::Call::named))]
+
 ghost use Rattle.ident.specs.Words.{key_num};
 ghost use Rattle.machine.specs.Call.{On, ForgetKnown, FailedPackageClaims, TeardownPackageClaims};
 ghost use Rattle.lent_lists.specs.Lists.{hashes_in};

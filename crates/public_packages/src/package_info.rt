@@ -1,4 +1,6 @@
 // The public calls on package info: solicit_package_info, failed_package_info and package_info_owner (document 01, "The request machine").
+#![tactic(auto, using(outcome::proofs::Owned::unsound), unfolding(machine::specs::Call::named))]
+
 ghost use Rattle.ident.specs.Words.{hash_num, key_num};
 ghost use Rattle.machine.specs.Call.{On, SolicitPackageInfo, FailedPackageInfo, PackageInfoOwner};
 ghost use Rattle.lent_lists.specs.Lists.{hashes_in};

@@ -5,3 +5,4 @@ pub mod Sent
 pub mod Held
 pub mod Parting
 pub mod Planned
+pub mod Unsound

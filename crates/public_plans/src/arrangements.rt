@@ -1,4 +1,6 @@
 // The public calls for Sending: arrange, and part, which takes no store (document 01, "Sending").
+#![tactic(auto, using(crate::proofs::Unsound::unsound), unfolding(machine::specs::Call::named))]
+
 ghost use Rattle.std.specs.Prelude.{◌≡◌, ◌+◌, ◌*◌, ◌≤◌, leb, ltb, length, get_or};
 ghost use Rattle.words.specs.Words.{words};
 ghost use Rattle.machine.specs.Call.{On, Arrange, entry_bytes};

@@ -1,4 +1,6 @@
 // The public call that tells the owners of many hashes (document 02, request e).
+#![tactic(auto, using(crate::proofs::Unsound::unsound), unfolding(machine::specs::Call::named))]
+
 ghost use Rattle.machine.specs.Call.{On, OwnersOf};
 ghost use Rattle.lent_lists.specs.Lists.{hashes_in};
 ghost use Rattle.outcome.specs.Outcome.{LeavesWith};

@@ -1,4 +1,6 @@
 // The public calls of a plan and of a checked list: plan, over all keys or over given ones, and claim (document 01, "The request machine").
+#![tactic(auto, using(crate::proofs::Unsound::unsound), unfolding(machine::specs::Call::named))]
+
 ghost use Rattle.std.proofs.Math.Option.{none, some};
 ghost use Rattle.machine.specs.Call.{On, Plan, Claim};
 ghost use Rattle.claiming.specs.Claiming.{entries_in};

@@ -1,4 +1,6 @@
 // The wrappers' public calls: announce_transactions, transaction_response_completed and transaction_not_found (document 01, "Wrappers' tracker part").
+#![tactic(auto, using(crate::proofs::Unsound::unsound), unfolding(machine::specs::Call::named))]
+
 ghost use Rattle.ident.specs.Words.{hash_num};
 ghost use Rattle.machine.specs.Call.{On, AnnounceTransactions, TransactionResponseCompleted, TransactionNotFound};
 ghost use Rattle.lent_lists.specs.Items.{items_in, offers_in};

@@ -1,4 +1,6 @@
 // The public calls that bring candidates: announce, request_parent and announce_parents (document 01, "The request machine").
+#![tactic(auto, using(outcome::proofs::Owned::unsound), unfolding(machine::specs::Call::named))]
+
 ghost use Rattle.machine.specs.Call.{On, Announce, RequestParent, AnnounceParents};
 ghost use Rattle.lent_lists.specs.Lists.{hashes_in};
 ghost use Rattle.requests.specs.Changes.{candidate_of};

@@ -1,4 +1,6 @@
 // The public calls of a failed or withdrawn request: failed, failed_with_parents, unclaim and forget (document 01, "The request machine").
+#![tactic(auto, using(outcome::proofs::Owned::unsound), unfolding(machine::specs::Call::named))]
+
 ghost use Rattle.ident.specs.Words.{key_num};
 ghost use Rattle.machine.specs.Call.{On, Failed, FailedWithParents, Unclaim, Forget};
 ghost use Rattle.outcome.specs.Outcome.{Leaves, LeavesWith};

@@ -48,6 +48,7 @@ pub fn open(s: &mut [u8], l: u64, q: u64) -> Result<u64, Refusal>
 
 // How many announcements are held, how many more fit of unpreferred newcomers and of preferred ones, who may evict, and how full the tracker is in
 // thousandths, rounded down.
+#[tactic(auto, using(outcome::proofs::Owned::unsound), unfolding(machine::specs::Call::named))]
 pub fn sum(s: &[u8]) -> Result<Figures, Refusal>
     ensures { Leaves (On Sum) s.now s.now (figures_of result) }
 {

@@ -1,4 +1,6 @@
 // The public calls of the known cursor and of the poll time: sweep and the poll gate (document 01, module 6).
+#![tactic(auto, using(outcome::proofs::Owned::unsound), unfolding(machine::specs::Call::named))]
+
 ghost use Rattle.machine.specs.Call.{On, Sweep, PollGate};
 ghost use Rattle.outcome.specs.Outcome.{Leaves, LeavesWith};
 ghost use Rattle.outcome.specs.Reply.{reply_of, listing_of};

@@ -9,9 +9,7 @@ use borrow.Author.Tests.{ne_eqb}
 use Rattle.std.specs.Prelude.{if◌then◌else◌}
 use Rattle.words.specs.Words.{words}
 use Rattle.machine.specs.State.{State}
-use Rattle.machine.specs.Call.{Ask, Announce, RequestParent, Failed, Unclaim, SolicitPackageInfo, ClaimPackage, BeginPackageResolution, AnnounceParents}
-use Rattle.machine.specs.Call.{FailedPackageClaims, Plan, Claim, Sweep, Disconnected, ReleasePackage, TeardownPackageClaims, Forget, ForgetKnown, FailedWithParents}
-use Rattle.machine.specs.Call.{FailedPackageInfo, PackageInfoOwner, AnnounceTransactions, TransactionResponseCompleted, TransactionNotFound, PollGate, Arrange, Sum, OwnersOf, Save}
+use Rattle.machine.specs.Call.{Ask, Announce}
 use Rattle.machine.specs.Call.{Buffer, Call, Open, Restore, On, refusal}
 use Rattle.machine.specs.Step.{Reply, Refused, perform, carry_out, step_if}
 use Rattle.store.specs.Read.{state_of}
@@ -21,36 +19,11 @@ use Rattle.outcome.specs.Outcome.{outcome_if, Does}
 abbrev pub Carried : Reply → Type 0
 Carried r = (n : ℕ) → r ≡ Refused n → ⊥
 
+-- of the first call, and the same of each other
 performed : (a : Ask) (s : State) → Carried (perform a s).reply
 unfolding perform
 performed (Announce c) s n e = cc
-performed (RequestParent c) s n e = cc
-performed (Failed k m clock) s n e = cc
-performed (Unclaim k m) s n e = cc
-performed (SolicitPackageInfo m h hs clock) s n e = cc
-performed (ClaimPackage m h c ws clock) s n e = cc
-performed (BeginPackageResolution m h c ws clock) s n e = cc
-performed (AnnounceParents m hs clock b) s n e = cc
-performed (FailedPackageClaims m cs clock b) s n e = cc
-performed (Plan clock ks b) s n e = cc
-performed (Claim clock l b) s n e = cc
-performed (Sweep b) s n e = cc
-performed (Disconnected m clock b) s n e = cc
-performed (ReleasePackage m h clock b) s n e = cc
-performed (TeardownPackageClaims clock) s n e = cc
-performed (Forget k) s n e = cc
-performed (ForgetKnown k clock) s n e = cc
-performed (FailedWithParents k m clock b) s n e = cc
-performed (FailedPackageInfo k m clock) s n e = cc
-performed (PackageInfoOwner k clock) s n e = cc
-performed (AnnounceTransactions m clock p w os) s n e = cc
-performed (TransactionResponseCompleted m x w clock) s n e = cc
-performed (TransactionNotFound m l clock b) s n e = cc
-performed (PollGate clock) s n e = cc
-performed (Arrange ws l b) s n e = cc
-performed Sum s n e = cc
-performed (OwnersOf hs b) s n e = cc
-performed (Save b) s n e = cc
+performed a s n e = cc
 
 pub replies : (c : Call) (s : State) → Carried (carry_out c s).reply
 unfolding carry_out

@@ -48,7 +48,11 @@ pub struct Ask {
 /// In the words of event lines, with what they have no field for behind it.
 impl fmt::Display for Ask {
     fn fmt(&self, f: &mut fmt::Formatter<'_>) -> fmt::Result {
-        let line = (self.spec.line)(&self.given);
+        let line = match &self.given {
+            Given::Open { l, q } => format!("open,{l},{q}"),
+            Given::Counts { connection } => format!("counts of {connection}"),
+            Given::On(call) => call.line(),
+        };
         let (rest, buffer, shift) = (self.rest.len(), self.buffer.len(), self.shift);
         write!(f, "{}: {line}", self.spec.name)?;
         write!(f, " ({rest} bytes behind a list, a buffer of {buffer}, the store at {shift} past a word)")

@@ -7,11 +7,19 @@ use crate::draw::Draw;
 use crate::reference::Reference;
 use crate::tally::Tally;
 
+macro_rules! in_group {
+    (packages $name:ident) => {
+        &$name::SPEC
+    };
+}
+
 macro_rules! listed {
-    ($($name:ident,)*) => {
+    ($($name:ident $(of $group:ident)?,)*) => {
         $(mod $name;)*
 
         pub static ALL: &[&Spec] = &[$(&$name::SPEC,)*];
+        /// The calls that end a request or its owner's part in it, and those of packages.
+        pub static PACKAGES: &[&Spec] = &[$($(in_group!($group $name),)?)*];
         pub static OPEN: &Spec = &open::SPEC;
         pub static PLANS: [&Spec; 2] = [&plan::SPEC, &plan_given::SPEC];
         pub static CLAIM: &Spec = &claim::SPEC;
@@ -23,24 +31,6 @@ pub use counts::{case as counts_case, counted};
 /// The call that tells the owners of many hashes.
 pub static OWNERS: &[&Spec] = &[&owners_of::SPEC];
 
-/// The calls that end a request or its owner's part in it, and those of packages.
-pub static PACKAGES: &[&Spec] = &[
-    &failed::SPEC,
-    &unclaim::SPEC,
-    &forget::SPEC,
-    &forget_known::SPEC,
-    &failed_package_info::SPEC,
-    &package_info_owner::SPEC,
-    &failed_with_parents::SPEC,
-    &disconnected::SPEC,
-    &solicit_package_info::SPEC,
-    &claim_package::SPEC,
-    &begin_package_resolution::SPEC,
-    &release_package::SPEC,
-    &failed_package_claims::SPEC,
-    &teardown_package_claims::SPEC,
-];
-
 listed! {
     open,
     sum,
@@ -49,22 +39,22 @@ listed! {
     request_parent,
     announce_parents,
     announce_transactions,
-    failed,
-    unclaim,
-    forget,
-    forget_known,
-    failed_package_info,
-    package_info_owner,
-    failed_with_parents,
+    failed of packages,
+    unclaim of packages,
+    forget of packages,
+    forget_known of packages,
+    failed_package_info of packages,
+    package_info_owner of packages,
+    failed_with_parents of packages,
     transaction_response_completed,
     transaction_not_found,
-    disconnected,
-    solicit_package_info,
-    claim_package,
-    begin_package_resolution,
-    release_package,
-    failed_package_claims,
-    teardown_package_claims,
+    disconnected of packages,
+    solicit_package_info of packages,
+    claim_package of packages,
+    begin_package_resolution of packages,
+    release_package of packages,
+    failed_package_claims of packages,
+    teardown_package_claims of packages,
     plan,
     plan_given,
     claim,
@@ -109,8 +99,6 @@ pub struct Spec {
     pub draw: fn(&mut Draw, &Reference) -> Given,
     /// The exported function.
     pub link: fn(&Given, Lent) -> u64,
-    /// As an event line.
-    pub line: fn(&Given) -> String,
     /// The call on the reference; without it the reference is written anew from the Rust's state.
     pub follow: Option<fn(&mut Reference, &Call, &mut Tally) -> Reply>,
     /// Cases that a long run must meet, and which of them a call that is carried out on this state is.
@@ -130,7 +118,6 @@ const COMMON: Spec = Spec {
     need: |_, _| 0,
     draw: |_, _| unreachable!("every call is drawn its own way"),
     link: |_, _| unreachable!("every call is linked"),
-    line: |given| format!("{given:?}"),
     follow: None,
     cases: &[],
     case: |_, _, _| "",

@@ -3,7 +3,6 @@
 use oracle::calls::{Call, Candidate, Hash, Item, Reply};
 use oracle::image::{header, row};
 use oracle::sound::{MAX_AT_HASH, MAX_OF_CONNECTION};
-use oracle::write;
 use tracker::abi;
 
 use super::{COMMON, Spec};
@@ -17,10 +16,6 @@ pub static SPEC: Spec = Spec {
     refusals: &[3, 4],
     draw: |draw, _| Given::On(Call::Announce { candidate: draw.candidate() }),
     link,
-    line: |given| match given {
-        Given::On(Call::Announce { candidate }) => format!("ann,{}", write::candidate(candidate)),
-        _ => unreachable!(),
-    },
     follow: Some(follow),
     mistakes: &[
         ("announce taken for request_parent", |call| match call {

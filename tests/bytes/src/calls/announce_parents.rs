@@ -4,7 +4,6 @@ use std::collections::BTreeSet;
 
 use oracle::calls::{Call, Candidate, Item, Key, Reply};
 use oracle::image::row;
-use oracle::write;
 use tracker::abi;
 
 use super::request_parent::request_parent;
@@ -24,12 +23,6 @@ pub static SPEC: Spec = Spec {
         Given::On(Call::AnnounceParents { connection, now, parents })
     },
     link,
-    line: |given| match given {
-        Given::On(Call::AnnounceParents { connection, now, parents }) => {
-            format!("kin,{connection},{now},{}", write::hashes(parents))
-        }
-        _ => unreachable!(),
-    },
     follow: Some(follow),
     mistakes: &[("parents from the last to the first", |call| match call.clone() {
         Call::AnnounceParents { connection, now, mut parents } => {

@@ -5,7 +5,6 @@ use std::collections::BTreeSet;
 use oracle::calls::{Call, Candidate, Hash, Item, Reply};
 use oracle::image::header;
 use oracle::sound::{MAX_OF_CONNECTION, MAX_OWNED};
-use oracle::write;
 use tracker::abi;
 
 use super::announce::announce;
@@ -25,7 +24,6 @@ pub static SPEC: Spec = Spec {
     hands: Hands::Nothing,
     draw,
     link,
-    line,
     follow: Some(follow),
     cases: &[
         "no item",
@@ -101,17 +99,6 @@ fn near_last(seen: &Reference) -> Option<(u64, usize)> {
     let entry = seen.entries().iter().max_by_key(|entry| entry[1])?;
     let more = MAX_OF_CONNECTION - entry[1];
     (1..=100).contains(&more).then_some((entry[0], 2 * more as usize + 1))
-}
-
-fn line(given: &Given) -> String {
-    let Given::On(Call::AnnounceTransactions { connection, now, preferred, wtxid_source, items }) = given
-    else {
-        unreachable!()
-    };
-    let flags = [preferred, wtxid_source].map(|flag| u8::from(*flag));
-    let items: String =
-        items.iter().map(|(item, priority)| format!(",{},{priority}", write::item(*item))).collect();
-    format!("inv,{connection},{now},{},{},{}{items}", flags[0], flags[1], items.len())
 }
 
 fn overloaded(seen: &Reference, connection: u64) -> bool {

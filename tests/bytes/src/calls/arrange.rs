@@ -4,7 +4,6 @@ use std::collections::BTreeSet;
 
 use oracle::calls::{Call, Entry, Item, Reply};
 use oracle::image::row;
-use oracle::write;
 use tracker::abi;
 
 use super::claim::{change, entry_at, odd};
@@ -24,13 +23,6 @@ pub static SPEC: Spec = Spec {
     },
     draw,
     link,
-    line: |given| match given {
-        Given::On(Call::Arrange { taken, witness }) => {
-            let list = write::reply(&Reply::Entries(taken.clone()));
-            format!("send,{} of {list}", write::numbers(witness))
-        }
-        _ => unreachable!(),
-    },
     cases: &[
         "no entry",
         "in order already",

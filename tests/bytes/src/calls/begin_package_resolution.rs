@@ -2,7 +2,6 @@
 
 use oracle::calls::{Call, Hash, Key, Reply};
 use oracle::image::place;
-use oracle::write;
 use tracker::abi;
 
 use super::{COMMON, Spec, some};
@@ -17,13 +16,6 @@ pub static SPEC: Spec = Spec {
     refusals: &[3, 4, 5],
     draw,
     link,
-    line: |given| match given {
-        Given::On(Call::BeginPackageResolution { connection, hash, combined, now, wtxids }) => {
-            let [hash, combined] = [hash, combined].map(|hash| write::hash(*hash));
-            format!("beg,{connection},{hash},{combined},{now},{}", write::hashes(wtxids))
-        }
-        _ => unreachable!(),
-    },
     cases: &[
         "no request",
         "no owner",

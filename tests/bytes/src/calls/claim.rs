@@ -5,7 +5,6 @@ use std::collections::{BTreeMap, BTreeSet};
 use oracle::calls::{Call, Entry, Hash, Item, Key, Kind, LAST_CLOCK, Reply};
 use oracle::image::row;
 use oracle::sound::MAX_OWNED;
-use oracle::write;
 use tracker::abi;
 
 use super::{COMMON, Hands, Spec};
@@ -26,12 +25,6 @@ pub static SPEC: Spec = Spec {
     },
     draw,
     link,
-    line: |given| match given {
-        Given::On(Call::Claim { now, checked }) => {
-            format!("take,{now} of {}", write::reply(&Reply::Entries(checked.clone())))
-        }
-        _ => unreachable!(),
-    },
     cases: &[
         "no entry",
         "none taken",

@@ -3,7 +3,6 @@
 use oracle::calls::{Call, Key, Reply};
 use oracle::image::place;
 use oracle::sound::MAX_WTXIDS;
-use oracle::write;
 use tracker::abi;
 
 use super::{COMMON, Spec, some};
@@ -22,13 +21,6 @@ pub static SPEC: Spec = Spec {
         Given::On(Call::ClaimPackage { connection, hash, combined, now, wtxids })
     },
     link,
-    line: |given| match given {
-        Given::On(Call::ClaimPackage { connection, hash, combined, now, wtxids }) => {
-            let [hash, combined] = [hash, combined].map(|hash| write::hash(*hash));
-            format!("clm,{connection},{hash},{combined},{now},{}", write::hashes(wtxids))
-        }
-        _ => unreachable!(),
-    },
     cases: &[
         "no request",
         "no owner",

@@ -20,10 +20,6 @@ pub static SPEC: Spec = Spec {
     hands: Hands::Counts,
     draw,
     link,
-    line: |given| match given {
-        Given::Counts { connection } => format!("counts of {connection}"),
-        _ => unreachable!(),
-    },
     cases: &[NONE, UNOWNED, OWNED, EQUAL],
     ..COMMON
 };

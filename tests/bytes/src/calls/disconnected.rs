@@ -21,10 +21,6 @@ pub static SPEC: Spec = Spec {
     need: |_, [l, q]| KEY * (l.min(MAX_OF_CONNECTION) as usize + MAX_PARENTS * q as usize),
     draw,
     link,
-    line: |given| match given {
-        Given::On(Call::Disconnected { connection, now }) => format!("gone,{connection},{now}"),
-        _ => unreachable!(),
-    },
     cases: &[
         "no request of its own",
         "none owned",

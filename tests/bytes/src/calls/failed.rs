@@ -1,7 +1,6 @@
 //! failed.
 
 use oracle::calls::Call;
-use oracle::write;
 use tracker::abi;
 
 use super::{COMMON, Spec, named};
@@ -17,12 +16,6 @@ pub static SPEC: Spec = Spec {
         Given::On(Call::Failed { key, connection, now })
     },
     link,
-    line: |given| match given {
-        Given::On(Call::Failed { key, connection, now }) => {
-            format!("bad,{},{connection},{now}", write::key(*key))
-        }
-        _ => unreachable!(),
-    },
     cases: STANDINGS,
     case: |call, seen, _| match call {
         Call::Failed { key, connection, .. } => standing(seen, *key, *connection),

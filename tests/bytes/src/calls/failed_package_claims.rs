@@ -4,7 +4,6 @@ use std::collections::BTreeSet;
 
 use oracle::calls::{Call, Hash, Key, Reply};
 use oracle::image::place;
-use oracle::write;
 use tracker::abi;
 
 use super::{COMMON, Hands, Spec, claims_need};
@@ -21,12 +20,6 @@ pub static SPEC: Spec = Spec {
     need: claims_need,
     draw,
     link,
-    line: |given| match given {
-        Given::On(Call::FailedPackageClaims { connection, now, combined }) => {
-            format!("lost,{connection},{now},{}", write::hashes(combined))
-        }
-        _ => unreachable!(),
-    },
     cases: &[
         "no hash",
         "none fails",

@@ -1,7 +1,6 @@
 //! failed_package_info.
 
 use oracle::calls::Call;
-use oracle::write;
 use tracker::abi;
 
 use super::{COMMON, Spec, named};
@@ -17,12 +16,6 @@ pub static SPEC: Spec = Spec {
         Given::On(Call::FailedPackageInfo { key, connection, now })
     },
     link,
-    line: |given| match given {
-        Given::On(Call::FailedPackageInfo { key, connection, now }) => {
-            format!("info,{},{connection},{now}", write::key(*key))
-        }
-        _ => unreachable!(),
-    },
     cases: STANDINGS,
     case: |call, seen, _| match call {
         Call::FailedPackageInfo { key, connection, .. } => standing(seen, *key, *connection),

@@ -1,7 +1,6 @@
 //! failed_with_parents.
 
 use oracle::calls::Call;
-use oracle::write;
 use tracker::abi;
 
 use super::{COMMON, Hands, Spec, keys_need, named};
@@ -19,12 +18,6 @@ pub static SPEC: Spec = Spec {
         Given::On(Call::FailedWithParents { key, connection, now })
     },
     link,
-    line: |given| match given {
-        Given::On(Call::FailedWithParents { key, connection, now }) => {
-            format!("fail,{},{connection},{now}", write::key(*key))
-        }
-        _ => unreachable!(),
-    },
     cases: STANDINGS,
     case: |call, seen, _| match call {
         Call::FailedWithParents { key, connection, .. } => standing(seen, *key, *connection),

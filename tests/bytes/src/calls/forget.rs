@@ -1,7 +1,6 @@
 //! forget.
 
 use oracle::calls::{Call, Key, Kind};
-use oracle::write;
 use tracker::abi;
 
 use super::{COMMON, Hands, Spec, named};
@@ -15,10 +14,6 @@ pub static SPEC: Spec = Spec {
     hands: Hands::Nothing,
     draw: |draw, seen| Given::On(Call::Forget { key: draw.request(seen).key }),
     link,
-    line: |given| match given {
-        Given::On(Call::Forget { key }) => format!("drop,{}", write::key(*key)),
-        _ => unreachable!(),
-    },
     cases: &["no request", "no owner", "owned", ASKED, AWAITING, "Enqueued", FREED],
     case: |call, seen, _| match call {
         // Of the owner, or of no connection at all.

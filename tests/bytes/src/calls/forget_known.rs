@@ -2,7 +2,6 @@
 
 use oracle::calls::{Call, Reply};
 use oracle::image::place;
-use oracle::write;
 use tracker::abi;
 
 use super::{COMMON, Hands, Spec, named};
@@ -22,10 +21,6 @@ pub static SPEC: Spec = Spec {
         Given::On(Call::ForgetKnown { key: request.key, now })
     },
     link,
-    line: |given| match given {
-        Given::On(Call::ForgetKnown { key, now }) => format!("known,{},{now}", write::key(*key)),
-        _ => unreachable!(),
-    },
     cases: &[
         "no request",
         "no owner",

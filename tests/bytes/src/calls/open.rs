@@ -15,10 +15,6 @@ pub static SPEC: Spec = Spec {
     hands: Hands::Nothing,
     draw,
     link,
-    line: |given| match given {
-        Given::Open { l, q } => format!("open,{l},{q}"),
-        _ => unreachable!(),
-    },
     ..COMMON
 };
 

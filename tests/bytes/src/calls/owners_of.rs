@@ -19,7 +19,6 @@ pub static SPEC: Spec = Spec {
     need: |given, _| OWNER * asked(given).len(),
     draw,
     link,
-    line: |given| format!("whose,{}", oracle::write::hashes(asked(given))),
     follow: Some(follow),
     cases: &["no hash", "one hash", "some hashes", "all 1,024 hashes", "every key passed", "some keys passed", "no key passed", "as Txid", "as Wtxid", "nobody"],
     case: |call, _, _| match hashes_of(call).len() {

@@ -2,7 +2,6 @@
 
 use oracle::calls::Call;
 use oracle::image::place;
-use oracle::write;
 use tracker::abi;
 
 use super::{COMMON, Spec, named, some};
@@ -16,10 +15,6 @@ pub static SPEC: Spec = Spec {
         Given::On(Call::PackageInfoOwner { key: request.key, now: draw.near(request.deadline) })
     },
     link,
-    line: |given| match given {
-        Given::On(Call::PackageInfoOwner { key, now }) => format!("who,{},{now}", write::key(*key)),
-        _ => unreachable!(),
-    },
     cases: &[
         "no owner",
         "package info, at the deadline",

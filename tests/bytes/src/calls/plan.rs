@@ -31,10 +31,6 @@ pub static SPEC: Spec = Spec {
     need,
     draw: |draw, seen| Given::On(Call::Plan { now: clock(draw, seen), keys: None }),
     link,
-    line: |given| match given {
-        Given::On(Call::Plan { now, .. }) => format!("plan,{now}"),
-        _ => unreachable!(),
-    },
     cases: &[
         "no key",
         "nothing ready",

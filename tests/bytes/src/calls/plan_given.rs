@@ -3,7 +3,6 @@
 use std::collections::BTreeSet;
 
 use oracle::calls::{Call, Key, Reply};
-use oracle::write;
 use tracker::abi;
 
 use super::plan::{CHECKS, EARLIER, case, clock, common, need, parents_selected};
@@ -20,13 +19,6 @@ pub static SPEC: Spec = Spec {
     need,
     draw,
     link,
-    line: |given| match given {
-        Given::On(Call::Plan { now, keys: Some(keys) }) => {
-            let list: String = keys.iter().map(|key| format!(",{}", write::key(*key))).collect();
-            format!("want,{now},{}{list}", keys.len())
-        }
-        _ => unreachable!(),
-    },
     cases: &[
         "no key",
         "nothing ready",

@@ -19,10 +19,6 @@ pub static SPEC: Spec = Spec {
     refusals: &[3, 5],
     draw,
     link,
-    line: |given| match given {
-        Given::On(Call::PollGate { now }) => format!("poll,{now}"),
-        _ => unreachable!(),
-    },
     follow: Some(follow),
     ..COMMON
 };

@@ -2,7 +2,6 @@
 
 use oracle::calls::{Call, Key};
 use oracle::image::place;
-use oracle::write;
 use tracker::abi;
 
 use super::{COMMON, Hands, Spec, keys_need};
@@ -20,12 +19,6 @@ pub static SPEC: Spec = Spec {
         Given::On(Call::ReleasePackage { connection, hash, now })
     },
     link,
-    line: |given| match given {
-        Given::On(Call::ReleasePackage { connection, hash, now }) => {
-            format!("rel,{connection},{},{now}", write::hash(*hash))
-        }
-        _ => unreachable!(),
-    },
     cases: STANDINGS,
     case: |call, seen, _| match call {
         Call::ReleasePackage { connection, hash, .. } => standing(seen, Key::wtxid(*hash), *connection),

@@ -2,7 +2,6 @@
 
 use oracle::calls::{Call, Candidate, Item, Reply};
 use oracle::image::row;
-use oracle::write;
 use tracker::abi;
 
 use super::announce::{announce, bring};
@@ -17,10 +16,6 @@ pub static SPEC: Spec = Spec {
     refusals: &[3, 4],
     draw: |draw, _| Given::On(Call::RequestParent { candidate: draw.candidate() }),
     link,
-    line: |given| match given {
-        Given::On(Call::RequestParent { candidate }) => format!("par,{}", write::candidate(candidate)),
-        _ => unreachable!(),
-    },
     follow: Some(follow),
     mistakes: &[("request_parent taken for announce", |call| match call {
         Call::RequestParent { candidate } => Some(Call::Announce { candidate: *candidate }),

@@ -2,7 +2,6 @@
 
 use oracle::calls::{Call, Key, Kind, Reply};
 use oracle::sound::MAX_OWNED;
-use oracle::write;
 use tracker::abi;
 
 use super::{COMMON, Spec, some};
@@ -16,12 +15,6 @@ pub static SPEC: Spec = Spec {
     refusals: &[3, 4, 5, 6, 8],
     draw,
     link,
-    line: |given| match given {
-        Given::On(Call::SolicitPackageInfo { connection, hash, now, parents }) => {
-            format!("sol,{connection},{},{now},{}", write::hash(*hash), write::hashes(parents))
-        }
-        _ => unreachable!(),
-    },
     cases: &[
         "0: the hash is owned",
         "0: the connection owns 100",

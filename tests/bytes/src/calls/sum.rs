@@ -16,7 +16,6 @@ pub static SPEC: Spec = Spec {
     hands: Hands::Figures,
     draw: |_, _| Given::On(Call::Sum),
     link,
-    line: |_| "sum".to_owned(),
     follow: Some(follow),
     ..COMMON
 };

@@ -20,7 +20,6 @@ pub static SPEC: Spec = Spec {
     need: |_, [l, _]| KEY * MAX_SWEPT.min(l as usize),
     draw: |_, _| Given::On(Call::Sweep),
     link,
-    line: |_| "swp".to_owned(),
     follow: Some(follow),
     ..COMMON
 };

@@ -17,10 +17,6 @@ pub static SPEC: Spec = Spec {
     refusals: &[3, 5],
     draw: |draw, _| Given::On(Call::TeardownPackageClaims { now: draw.clock() }),
     link,
-    line: |given| match given {
-        Given::On(Call::TeardownPackageClaims { now }) => format!("tear,{now}"),
-        _ => unreachable!(),
-    },
     cases: &[
         "no package",
         "one package",

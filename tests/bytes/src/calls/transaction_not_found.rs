@@ -4,7 +4,6 @@ use std::collections::BTreeSet;
 
 use oracle::calls::{Call, Hash, Item, Key, MAX_PARENTS, Reply};
 use oracle::image::{place, row};
-use oracle::write;
 use tracker::abi;
 
 use super::announce_transactions::item_bytes;
@@ -29,7 +28,6 @@ pub static SPEC: Spec = Spec {
     },
     draw,
     link,
-    line,
     cases: &[
         "no item",
         "nothing fails",
@@ -104,12 +102,6 @@ fn asked_of(draw: &mut Draw, seen: &Reference, connection: u64) -> Vec<Item> {
     });
     items.extend(owning.take(12).map(|i| seen.entry_at(i).candidate.item));
     items
-}
-
-fn line(given: &Given) -> String {
-    let Given::On(Call::TransactionNotFound { connection, now, items }) = given else { unreachable!() };
-    let list: String = items.iter().map(|item| format!(",{}", write::item(*item))).collect();
-    format!("nfd,{connection},{now},{}{list}", items.len())
 }
 
 fn case(call: &Call, _: &Reference, reply: &Reply) -> &'static str {

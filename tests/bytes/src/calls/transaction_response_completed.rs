@@ -1,7 +1,6 @@
 //! transaction_response_completed.
 
 use oracle::calls::{Call, Key, Kind, Reply};
-use oracle::write;
 use tracker::abi;
 
 use super::{COMMON, Hands, Spec};
@@ -17,12 +16,6 @@ pub static SPEC: Spec = Spec {
     hands: Hands::Nothing,
     draw,
     link,
-    line: |given| match given {
-        Given::On(Call::TransactionResponseCompleted { connection, txid, wtxid, now }) => {
-            format!("done,{connection},{},{},{now}", write::hash(*txid), write::hash(*wtxid))
-        }
-        _ => unreachable!(),
-    },
     cases: &[
         "neither is its own",
         "the Txid key fails",

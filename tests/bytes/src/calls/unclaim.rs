@@ -1,7 +1,6 @@
 //! unclaim.
 
 use oracle::calls::Call;
-use oracle::write;
 use tracker::abi;
 
 use super::{COMMON, Hands, Spec, named};
@@ -17,10 +16,6 @@ pub static SPEC: Spec = Spec {
         Given::On(Call::Unclaim { key: request.key, connection: request.connection })
     },
     link,
-    line: |given| match given {
-        Given::On(Call::Unclaim { key, connection }) => format!("off,{},{connection}", write::key(*key)),
-        _ => unreachable!(),
-    },
     cases: STANDINGS,
     case: |call, seen, _| match call {
         Call::Unclaim { key, connection } => standing(seen, *key, *connection),

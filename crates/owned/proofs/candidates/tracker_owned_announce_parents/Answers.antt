@@ -1,18 +1,11 @@
--- `owned::candidates::tracker_owned_announce_parents` meets its contract: that of the checked call, behind its sound test, and the store stays sound.
-use mathlib.Core.Path.{refl}
+-- `owned::candidates::tracker_owned_announce_parents` leaves a sound store: its arguments are such as a call's are.
 use native.Mathlib.Omega.{arith}
 use Rattle.tracker.specs.Made.{announces-parents as makes}
-use Rattle.owned.proofs.Owner.{owner-keys}
+use Rattle.tracker.proofs.Typed.{made_typed}
+use Rattle.outcome.proofs.Owned.{does-keeps-sound}
 use Rattle.owned.proofs.candidates.tracker_owned_announce_parents.Goals as goal
 
-pub returns : goal.returns
-returns c =
-    let m = (makes c.args.connection
-    c.args.clock
-    c.args.parents.now
-    c.args.answer.now (omega arith) (omega arith)
-    (λ i. omega (arith, c.type_inv.parents i))) in
-    let o = owner-keys m c.requires
-    (λ i. grind arith)
-    c.announce_parents-l.result _ c.announce_parents-l.ensures c.hand_out.ensures refl in
-    record { hands_keys = o.0; sound = o.1 }
+pub returns-clause-sound : goal.returns-clause-sound
+returns-clause-sound c =
+    does-keeps-sound c.announce_parents-l.ensures c.requires
+    (made_typed _ (makes c.args.connection c.args.clock c.args.parents.now c.args.answer.now (omega arith) (omega arith) (λ i. omega (arith, c.type_inv.parents i))))

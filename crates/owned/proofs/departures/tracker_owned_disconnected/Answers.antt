@@ -1,16 +1,11 @@
--- `owned::departures::tracker_owned_disconnected` meets its contract: that of the checked call, behind its sound test, and the store stays sound.
+-- `owned::departures::tracker_owned_disconnected` leaves a sound store: its arguments are such as a call's are.
 use native.Mathlib.Omega.{arith}
 use Rattle.tracker.specs.Made.{departs as makes}
-use Rattle.owned.proofs.Owner.{owner_departure}
+use Rattle.tracker.proofs.Typed.{made_typed}
+use Rattle.outcome.proofs.Owned.{does-keeps-sound}
 use Rattle.owned.proofs.departures.tracker_owned_disconnected.Goals as goal
 
-pub returns : goal.returns
-returns c =
-    let m = makes c.args.connection
-    c.args.clock
-    c.args.answer.now (omega arith) (omega arith) in
-    let o = owner_departure m c.requires
-    (λ i. grind arith)
-    c.disconnected-d.result _ _ c.disconnected-d.ensures
-    c.hand_departure.ensures in
-    record { hands_departure = o.0; sound = o.1 }
+pub returns-clause-sound : goal.returns-clause-sound
+returns-clause-sound c =
+    does-keeps-sound c.disconnected-d.ensures c.requires
+    (made_typed _ (makes c.args.connection c.args.clock c.args.answer.now (omega arith) (omega arith)))

@@ -1,16 +1,10 @@
--- `owned::failures::tracker_owned_forget` meets its contract: that of the checked call, behind its sound test, and the store stays sound.
-use mathlib.Core.Path.{ap}
-use native.Mathlib.Omega.{arith}
-use Rattle.machine.specs.Call.{On, Forget}
+-- `owned::failures::tracker_owned_forget` leaves a sound store: its arguments are such as a call's are.
 use Rattle.tracker.specs.Made.{forgets as makes}
-use Rattle.crossing.proofs.Replies.{forgets}
-use Rattle.owned.proofs.Owner.{owner_one}
+use Rattle.tracker.proofs.Typed.{made_typed}
+use Rattle.outcome.proofs.Owned.{does-keeps-sound}
 use Rattle.owned.proofs.failures.tracker_owned_forget.Goals as goal
 
-pub returns : goal.returns
-returns c =
-    let m = (makes c.key_given-k.result c.key_given-k.type_inv) in
-    let o = owner_one m c.requires (λ i. grind arith) (forgets _)
-    c.forget.result c.forget.ensures c.status.ensures
-    (ap (λ x. On (Forget x)) c.key_given-k.ensures) in
-    record { leaves = o.0; sound = o.1 }
+pub returns-clause-sound : goal.returns-clause-sound
+returns-clause-sound c =
+    does-keeps-sound c.forget.ensures c.requires
+    (made_typed _ (makes c.key_given-k.result c.key_given-k.type_inv))

@@ -1,17 +1,11 @@
--- `owned::failures::tracker_owned_unclaim` meets its contract: that of the checked call, behind its sound test, and the store stays sound.
-use mathlib.Core.Path.{ap}
+-- `owned::failures::tracker_owned_unclaim` leaves a sound store: its arguments are such as a call's are.
 use native.Mathlib.Omega.{arith}
-use Rattle.machine.specs.Call.{On, Unclaim}
 use Rattle.tracker.specs.Made.{unclaims as makes}
-use Rattle.crossing.proofs.Replies.{unclaims}
-use Rattle.owned.proofs.Owner.{owner_one}
+use Rattle.tracker.proofs.Typed.{made_typed}
+use Rattle.outcome.proofs.Owned.{does-keeps-sound}
 use Rattle.owned.proofs.failures.tracker_owned_unclaim.Goals as goal
 
-pub returns : goal.returns
-returns c =
-    let m = (makes c.key_given-k.result c.args.connection
-    c.key_given-k.type_inv (omega arith)) in
-    let o = owner_one m c.requires (λ i. grind arith) (unclaims _ _)
-    c.unclaim.result c.unclaim.ensures c.status.ensures
-    (ap (λ x. On (Unclaim x c.args.connection)) c.key_given-k.ensures) in
-    record { leaves = o.0; sound = o.1 }
+pub returns-clause-sound : goal.returns-clause-sound
+returns-clause-sound c =
+    does-keeps-sound c.unclaim.ensures c.requires
+    (made_typed _ (makes c.key_given-k.result c.args.connection c.key_given-k.type_inv (omega arith)))

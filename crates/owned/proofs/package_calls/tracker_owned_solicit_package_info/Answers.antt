@@ -1,17 +1,12 @@
--- `owned::package_calls::tracker_owned_solicit_package_info` meets its contract: that of the checked call, behind its sound test, and the store stays sound.
+-- `owned::package_calls::tracker_owned_solicit_package_info` leaves a sound store: its arguments are such as a call's are.
 use native.Mathlib.Omega.{arith}
 use Rattle.ident.proofs.Words.{hash-four, hash_below}
 use Rattle.tracker.specs.Made.{solicits as makes}
-use Rattle.owned.proofs.Owner.{owner-number}
+use Rattle.tracker.proofs.Typed.{made_typed}
+use Rattle.outcome.proofs.Owned.{does-keeps-sound}
 use Rattle.owned.proofs.package_calls.tracker_owned_solicit_package_info.Goals as goal
 
-pub returns : goal.returns
-returns c =
-    let m = (makes c.args.connection _
-    c.args.clock c.args.parents.now
-    (omega arith) (hash_below _ (hash-four _ c.from.type_inv)) (omega arith)
-    (λ i. omega (arith, c.type_inv.parents i))) in
-    let o = owner-number m c.requires
-    (λ i. grind arith) c.solicit_package_info-a.result _
-    c.solicit_package_info-a.ensures c.hand_out.ensures (rw c.from.ensures) in
-    record { hands_out = o.0; sound = o.1 }
+pub returns-clause-sound : goal.returns-clause-sound
+returns-clause-sound c =
+    does-keeps-sound c.solicit_package_info-a.ensures c.requires
+    (made_typed _ (makes c.args.connection _ c.args.clock c.args.parents.now (omega arith) (hash_below _ (hash-four _ c.from.type_inv)) (omega arith) (λ i. omega (arith, c.type_inv.parents i))))

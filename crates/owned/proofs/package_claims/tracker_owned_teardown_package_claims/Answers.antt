@@ -1,14 +1,11 @@
--- `owned::package_claims::tracker_owned_teardown_package_claims` meets its contract: that of the checked call, behind its sound test, and the store stays sound.
-use mathlib.Core.Path.{refl}
+-- `owned::package_claims::tracker_owned_teardown_package_claims` leaves a sound store: its arguments are such as a call's are.
 use native.Mathlib.Omega.{arith}
 use Rattle.tracker.specs.Made.{tears_down as makes}
-use Rattle.owned.proofs.Owner.{owner-number}
+use Rattle.tracker.proofs.Typed.{made_typed}
+use Rattle.outcome.proofs.Owned.{does-keeps-sound}
 use Rattle.owned.proofs.package_claims.tracker_owned_teardown_package_claims.Goals as goal
 
-pub returns : goal.returns
-returns c =
-    let a = c.args in
-    let m = makes a.clock (omega arith) in
-    let o = owner-number m c.requires (λ i. grind arith)
-    c.teardown_package_claims-a.result _ c.teardown_package_claims-a.ensures c.hand_out.ensures refl in
-    record { hands_out = o.0; sound = o.1 }
+pub returns-clause-sound : goal.returns-clause-sound
+returns-clause-sound c =
+    does-keeps-sound c.teardown_package_claims-a.ensures c.requires
+    (made_typed _ (makes c.args.clock (omega arith)))

@@ -1,16 +1,11 @@
--- `owned::plans::tracker_owned_claim` meets its contract: that of the checked call, behind its sound test, and the store stays sound.
+-- `owned::plans::tracker_owned_claim` leaves a sound store: its arguments are such as a call's are.
 use native.Mathlib.Omega.{arith}
 use Rattle.tracker.specs.Made.{claims as makes}
-use Rattle.owned.proofs.Owner.{owner-entries}
+use Rattle.tracker.proofs.Typed.{made_typed}
+use Rattle.outcome.proofs.Owned.{does-keeps-sound}
 use Rattle.owned.proofs.plans.tracker_owned_claim.Goals as goal
 
-pub returns : goal.returns
-returns c =
-    let m = makes c.args.clock
-    c.args.checked.now
-    c.args.answer.now (omega arith)
-    (λ i. omega (arith, c.type_inv.checked i)) in
-    let o = owner-entries m c.requires
-    (λ i. grind arith)
-    c.claim-l.result _ c.claim-l.ensures c.hand_out.ensures in
-    record { hands_entries = o.0; sound = o.1 }
+pub returns-clause-sound : goal.returns-clause-sound
+returns-clause-sound c =
+    does-keeps-sound c.claim-l.ensures c.requires
+    (made_typed _ (makes c.args.clock c.args.checked.now c.args.answer.now (omega arith) (λ i. omega (arith, c.type_inv.checked i))))

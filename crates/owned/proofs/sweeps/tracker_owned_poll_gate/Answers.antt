@@ -1,13 +1,11 @@
--- `owned::sweeps::tracker_owned_poll_gate` meets its contract: that of the checked call, behind its sound test, and the store stays sound.
-use mathlib.Core.Path.{refl}
+-- `owned::sweeps::tracker_owned_poll_gate` leaves a sound store: its arguments are such as a call's are.
 use native.Mathlib.Omega.{arith}
 use Rattle.tracker.specs.Made.{gates as makes}
-use Rattle.owned.proofs.Owner.{owner-number}
+use Rattle.tracker.proofs.Typed.{made_typed}
+use Rattle.outcome.proofs.Owned.{does-keeps-sound}
 use Rattle.owned.proofs.sweeps.tracker_owned_poll_gate.Goals as goal
 
-pub returns : goal.returns
-returns c =
-    let m = (makes c.args.clock (omega arith)) in
-    let o = owner-number m c.requires (λ i. grind arith)
-    c.poll_gate-a.result _ c.poll_gate-a.ensures c.hand_out.ensures refl in
-    record { hands_out = o.0; sound = o.1 }
+pub returns-clause-sound : goal.returns-clause-sound
+returns-clause-sound c =
+    does-keeps-sound c.poll_gate-a.ensures c.requires
+    (made_typed _ (makes c.args.clock (omega arith)))

@@ -1,14 +1,10 @@
--- `owned::sweeps::tracker_owned_sweep` meets its contract: that of the checked call, behind its sound test, and the store stays sound.
-use mathlib.Core.Path.{refl}
-use native.Mathlib.Omega.{arith}
+-- `owned::sweeps::tracker_owned_sweep` leaves a sound store: its arguments are such as a call's are.
 use Rattle.tracker.specs.Made.{sweeps as makes}
-use Rattle.owned.proofs.Owner.{owner-keys}
+use Rattle.tracker.proofs.Typed.{made_typed}
+use Rattle.outcome.proofs.Owned.{does-keeps-sound}
 use Rattle.owned.proofs.sweeps.tracker_owned_sweep.Goals as goal
 
-pub returns : goal.returns
-returns c =
-    let m = (makes c.args.answer.now) in
-    let o = owner-keys m c.requires
-    (λ i. grind arith)
-    c.sweep-l.result _ c.sweep-l.ensures c.hand_out.ensures refl in
-    record { hands_keys = o.0; sound = o.1 }
+pub returns-clause-sound : goal.returns-clause-sound
+returns-clause-sound c =
+    does-keeps-sound c.sweep-l.ensures c.requires
+    (made_typed _ (makes c.args.answer.now))

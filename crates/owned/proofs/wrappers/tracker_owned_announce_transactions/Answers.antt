@@ -1,19 +1,12 @@
--- `owned::wrappers::tracker_owned_announce_transactions` meets its contract: that of the checked call, behind its sound test, and the store stays sound.
-use mathlib.Core.Path.{refl}
+-- `owned::wrappers::tracker_owned_announce_transactions` leaves a sound store: its arguments are such as a call's are.
 use native.Mathlib.Omega.{arith}
 use Rattle.tracker.specs.Made.{announces-transactions as makes}
-use Rattle.crossing.proofs.Replies.{announces-transactions}
-use Rattle.owned.proofs.Owner.{owner_one}
+use Rattle.tracker.proofs.Typed.{made_typed}
+use Rattle.outcome.proofs.Owned.{does-keeps-sound}
 use Rattle.owned.proofs.wrappers.tracker_owned_announce_transactions.Goals as goal
 
-pub returns : goal.returns
-returns c =
-    let m = makes c.args.connection c.args.clock
-    c.args.preferred c.args.source
-    c.args.items.now c.args.priorities.now
-    (omega arith) (omega arith) (λ i. omega (arith, c.type_inv.items i))
-    (λ i. omega (arith, c.type_inv.priorities i)) in
-    let o = owner_one m c.requires
-    (λ i. grind arith) (announces-transactions _ _ _ _ _)
-    c.announce_transactions-a.result c.announce_transactions-a.ensures c.status.ensures refl in
-    record { leaves = o.0; sound = o.1 }
+pub returns-clause-sound : goal.returns-clause-sound
+returns-clause-sound c =
+    does-keeps-sound c.announce_transactions-a.ensures c.requires
+    (made_typed _ (makes c.args.connection c.args.clock c.args.preferred c.args.source c.args.items.now c.args.priorities.now
+    (omega arith) (omega arith) (λ i. omega (arith, c.type_inv.items i)) (λ i. omega (arith, c.type_inv.priorities i))))

@@ -1,18 +1,12 @@
--- `owned::wrappers::tracker_owned_transaction_response_completed` meets its contract: that of the checked call, behind its sound test, and the store stays sound.
+-- `owned::wrappers::tracker_owned_transaction_response_completed` leaves a sound store: its arguments are such as a call's are.
 use native.Mathlib.Omega.{arith}
 use Rattle.ident.proofs.Words.{hash-four, hash_below}
 use Rattle.tracker.specs.Made.{completes as makes}
-use Rattle.crossing.proofs.Replies.{completes}
-use Rattle.owned.proofs.Owner.{owner_one}
+use Rattle.tracker.proofs.Typed.{made_typed}
+use Rattle.outcome.proofs.Owned.{does-keeps-sound}
 use Rattle.owned.proofs.wrappers.tracker_owned_transaction_response_completed.Goals as goal
 
-pub returns : goal.returns
-returns c =
-    let m = makes c.args.connection _ _ c.args.clock
-    (omega arith) (hash_below _ (hash-four _ c.from.type_inv))
-    (hash_below _ (hash-four _ c.from-2.type_inv)) (omega arith) in
-    let o = owner_one m c.requires
-    (λ i. grind arith) (completes _ _ _ _)
-    c.transaction_response_completed.result c.transaction_response_completed.ensures c.status.ensures
-    (rw (c.from.ensures, c.from-2.ensures)) in
-    record { leaves = o.0; sound = o.1 }
+pub returns-clause-sound : goal.returns-clause-sound
+returns-clause-sound c =
+    does-keeps-sound c.transaction_response_completed.ensures c.requires
+    (made_typed _ (makes c.args.connection _ _ c.args.clock (omega arith) (hash_below _ (hash-four _ c.from.type_inv)) (hash_below _ (hash-four _ c.from-2.type_inv)) (omega arith)))
