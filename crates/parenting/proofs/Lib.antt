@@ -2,6 +2,7 @@ pub mod Starting
 pub mod Marking
 pub mod Admitted
 pub mod Waiting
+pub mod Adopting
 pub mod Spent
 pub mod SpentStill
 pub mod Supplying
