@@ -2,10 +2,11 @@ pub mod Starting
 pub mod Marking
 pub mod Admitted
 pub mod Waiting
-pub mod Adopting
 pub mod Spent
 pub mod SpentStill
 pub mod Supplying
+pub mod StillListed
+pub mod Adopting
 pub mod Deferred
 pub mod NextParent
 pub mod Listing
