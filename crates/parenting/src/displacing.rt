@@ -8,7 +8,8 @@ ghost use Rattle.announcing.specs.Falls.{VictimsIn};
 ghost use Rattle.gathering.specs.Counted.{then_wait};
 ghost use Rattle.gathering.specs.Deferring.{ListedAt};
 ghost use Rattle.parenting.specs.Waiting.{Waits};
-ghost use Rattle.parenting.specs.Displacing.{reserve_of, unlisted, Lacks, Restocked, ShutOut, Unknown, Unaided, Supplies, AdoptsListed, Settled, Finished, FurtherIn, FurtherAlone, DefersWith, SpentIn};
+ghost use Rattle.parenting.specs.Displacing.{reserve_of, unlisted, Lacks, Restocked, ShutOut, Unknown, Unaided};
+ghost use Rattle.parenting.specs.Displacing.{Supplies, AdoptsListed, Settled, Finished, FurtherIn, FurtherAlone, DefersWith, SpentIn};
 
 use crate::joining;
 use crate::parent::Parent;
