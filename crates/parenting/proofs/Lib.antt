@@ -5,6 +5,8 @@ pub mod Waiting
 pub mod Spent
 pub mod SpentStill
 pub mod Supplying
+pub mod StillListed
+pub mod Adopting
 pub mod Deferred
 pub mod NextParent
 pub mod Listing

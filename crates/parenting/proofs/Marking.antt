@@ -34,7 +34,7 @@ use Rattle.parenting.specs.Waiting.{marks, keys_of, row_keys, TxKey, Parental}
 
 -- ---- counts
 
-count-mark : (q : Key → ℕ → Bool) (k : Key) (t : Table) → count q (mark k t) ≡ count q t
+pub count-mark : (q : Key → ℕ → Bool) (k : Key) (t : Table) → count q (mark k t) ≡ count q t
 unfolding change total keep count_in
 count-mark q k [] = refl
 count-mark q k (r ∷ t) =

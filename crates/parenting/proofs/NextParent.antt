@@ -19,7 +19,7 @@ use Rattle.gathering.specs.contracts.beside.FarePartialEq.TheImpl.{eq-value}
 use Rattle.gathering.specs.Counted.{then_wait}
 use Rattle.gathering.specs.Deferring.{Deferred}
 use Rattle.parenting.specs.Waiting.{LetIn, Next, NextIn}
-use Rattle.parenting.specs.Displacing.{Spent, Reserve, unlisted, ShutOut, Unknown, Unaided, Supplied, Restocked, Settled, FurtherAt, FurtherIn, FurtherAlone, DefersWith, SpentIn}
+use Rattle.parenting.specs.Displacing.{Spent, Reserve, unlisted, ShutOut, Unknown, Unaided, Supplied, Restocked, Settled, Further, FurtherAt, FurtherIn, FurtherAlone, DefersWith, SpentIn}
 use Rattle.parenting.proofs.Starting.{none_sound, none_writes}
 use Rattle.parenting.proofs.Waiting.{alone_by}
 use Rattle.parenting.proofs.Spent.{spent_next, spent_left}
@@ -115,13 +115,16 @@ module _ {b : List ℕ} {n now h i : ℕ} where
   -- ---- the whole
 
   -- the victims that were listed go, and where none is listed any more it is announced
-  pub further-unlisted : {b₁ b₂ w w' w₁ w₂ v v' v₂ : List ℕ} {d d' e m : ℕ} {q q' g : Reserve} {kept : Bool} {r : Fare} → Restocked n b w v v' d q q' → DefersWith n now h i b w w' v' d q' r
-      → r ≡ Alone → d' ≡ then_wait d r → Settled n b b₁ w' w₁ v' d' e q' → g ≡ unlisted q'.spent
+  pub settled-further : {b₁ b₂ w w₁ w₂ v v₂ : List ℕ} {d e m : ℕ} {q g : Reserve} {kept : Bool} → Settled n b b₁ w w₁ v d e q → g ≡ unlisted q.spent
       → FurtherAlone n now h i b₁ b₂ w₁ w₂ e (unlisted g.spent) (record { kept = kept; waiting = m; reserve = unlisted g.spent })
       → FurtherIn n now h i b b₂ w w₂ v v₂ d q (record { kept = kept; waiting = m; reserve = g })
-  further-unlisted {b₂ = b₂} {w' = w'} {w₂ = w₂} {v' = v'} {v₂ = v₂} {d = d} {m = m} {q' = q'} {g = g} {kept = kept} x y z c s k a st t f =
-      let o = y.alone z st t (x st t f) in
-      let here = subst (λ (j : ℕ). Supplied n b w' v' j st t q') (sym (c ∙ ap (then_wait d) z)) o in
-      let same : g.spent ≡ q'.spent = ap (λ (j : Reserve). j.spent) k in
+  settled-further {b₂ = b₂} {w₂ = w₂} {v₂ = v₂} {m = m} {q = q} {g = g} {kept = kept} s k a st t o =
+      let same : g.spent ≡ q.spent = ap (λ (j : Reserve). j.spent) k in
       subst (λ (j : Reserve). FurtherAt n now h i b₂ w₂ v₂ st t (record { kept = kept; waiting = m; reserve = j })) (sym (k ∙ ap unlisted (sym same)))
-      (a v₂ st t (supplied_unlisted v₂ (s st t here) g.spent (λ l. o.none_left (sym same ∙ l))))
+      (a v₂ st t (supplied_unlisted v₂ (s st t o) g.spent (λ l. o.none_left (sym same ∙ l))))
+
+  -- it is announced by itself, with what is known then
+  pub further-restocked : {b₂ w w' w₂ v v' v₂ : List ℕ} {d d' : ℕ} {q q' : Reserve} {r : Fare} {f : Further} → Restocked n b w v v' d q q' → DefersWith n now h i b w w' v' d q' r
+      → r ≡ Alone → d' ≡ then_wait d r → FurtherIn n now h i b b₂ w' w₂ v' v₂ d' q' f → FurtherIn n now h i b b₂ w w₂ v v₂ d q f
+  further-restocked {w' = w'} {v' = v'} {d = d} {q' = q'} x y z c a st t o =
+      a st t (subst (λ (j : ℕ). Supplied n b w' v' j st t q') (sym (c ∙ ap (then_wait d) z)) (y.alone z st t (x st t o)))

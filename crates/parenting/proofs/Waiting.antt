@@ -16,7 +16,7 @@ use Rattle.regions.specs.Regions.{Holds, Found}
 use Rattle.regions.specs.Rows.{row_size, row_words, read_row}
 use Rattle.machine.specs.Limits.{Limits, word}
 use Rattle.machine.specs.State.{Candidate, Entry, Table, State, Answer, limits_of, on_table}
-use Rattle.machine.specs.Table.{one, at, count}
+use Rattle.machine.specs.Table.{one}
 use Rattle.machine.specs.Announce.{request_parent_at}
 use Rattle.machine.specs.Fail.{parent_of, mark}
 use Rattle.machine.specs.Sound.{Sound, Bounded}

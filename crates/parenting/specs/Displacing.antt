@@ -122,6 +122,11 @@ module _ (n now h i : ℕ) where
     pub waits : r ≡ fare.Waits → (st : State) (t : Table) → Supplied n b w v d st t q → FurtherAt b w' v st t (record { kept = true; waiting = d + 1; reserve = q })
     pub alone : r ≡ fare.Alone → (st : State) (t : Table) → Supplied n b w v d st t q → Supplied n b w' v d st t q
 
+  -- r tells whether it is adopted in place while the d before it wait on for their victims, or else nothing is done
+  pub record AdoptsListed (b b' w v : List ℕ) (d : ℕ) (q : Reserve) (r : Bool) : Type 0 where
+    pub adopts : r ≡ true → (st : State) (t : Table) → Supplied n b w v d st t q → FurtherAt b' w v st t (record { kept = true; waiting = d; reserve = q })
+    pub alone : r ≡ false → b' ≡ b
+
   -- it is announced by itself, where no candidate can be evicted
   abbrev pub SpentIn : List ℕ → List ℕ → List ℕ → List ℕ → ℕ → Bool → Type 0
   SpentIn b b' w w' d r = (st : State) (t : Table) → Beside n b w d st t → Spent t → NextAt n now h i b' w' st t (record { kept = r; waiting = 0 })

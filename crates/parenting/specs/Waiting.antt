@@ -5,15 +5,15 @@ use Rattle.regions.specs.declared.Row.{Row}
 use Rattle.regions.specs.Regions.{Holds}
 use Rattle.regions.specs.Rows.{row_size, row_words}
 use Rattle.machine.specs.State.{Entry, Table, State, limits_of, on_table}
-use Rattle.machine.specs.Table.{held}
+use Rattle.machine.specs.Table.{held, is_candidate}
 use Rattle.machine.specs.Fail.{mark}
 use Rattle.machine.specs.Sound.{Sound}
 use Rattle.machine.specs.Typed.{Each}
 use Rattle.store.specs.Gather.{key_at}
 use Rattle.store.specs.Image.{Writes}
 use Rattle.announcing.specs.Answers.{one_parent}
-use Rattle.gathering.specs.Waits.{pushes}
-use Rattle.gathering.specs.Aside.{Aside}
+use Rattle.gathering.specs.Waits.{pushes, waits}
+use Rattle.gathering.specs.Aside.{Mixed, Aside}
 
 -- ---- marks
 
@@ -80,6 +80,11 @@ module _ (n : ℕ) where
   abbrev pub LetIn : List ℕ → List ℕ → List ℕ → List ℕ → ℕ → Type 0
   LetIn b b' w w' d = (st : State) (t : Table) → Beside b w d st t → Beside b' w' 0 st t
 
+-- r of true: the connection n has announced the hash h, and none of the d that wait is at it
+pub record Adoptable (b w : List ℕ) (d h n : ℕ) (r : Bool) : Type 0 where
+  pub known : r ≡ true → (st : State) → Sound st → Writes b st → is_candidate n h st.table ≡ true
+  pub apart : r ≡ true → (st : State) → Sound st → Writes b st → (es : List Entry) → Mixed st.table es w d → waits h es ≡ false
+
 -- whether a parent was kept, and how many wait after it
 pub record Next : Type 0 where
   pub kept : Bool
@@ -95,6 +100,11 @@ module _ (n now h i : ℕ) where
   pub record WaitsWith (b w w' : List ℕ) (d : ℕ) (r : Bool) : Type 0 where
     pub joins : r ≡ true → (st : State) (t : Table) → Beside n b w d st t → NextAt b w' st t (record { kept = true; waiting = d + 1 })
     pub alone : r ≡ false → w' ≡ w
+
+  -- r tells whether it is adopted in place while the d before it wait on, or else nothing is done
+  pub record AdoptsBeside (b b' w : List ℕ) (d : ℕ) (r : Bool) : Type 0 where
+    pub adopts : r ≡ true → (st : State) (t : Table) → Beside n b w d st t → NextAt b' w st t (record { kept = true; waiting = d })
+    pub alone : r ≡ false → b' ≡ b
 
   abbrev pub NextIn : List ℕ → List ℕ → List ℕ → List ℕ → ℕ → Next → Type 0
   NextIn b b' w w' d r = (st : State) (t : Table) → Beside n b w d st t → NextAt b' w' st t r

@@ -4,9 +4,12 @@ ghost use Rattle.std.specs.Prelude.{◌≡◌, true, ◌≤◌};
 ghost use Rattle.ident.specs.Words.{hash_num};
 ghost use Rattle.words.specs.Words.{words};
 ghost use Rattle.store.specs.Shown.{Kept};
+ghost use Rattle.announcing.specs.Falls.{VictimsIn};
 ghost use Rattle.gathering.specs.Counted.{then_wait};
+ghost use Rattle.gathering.specs.Deferring.{ListedAt};
 ghost use Rattle.parenting.specs.Waiting.{Waits};
-ghost use Rattle.parenting.specs.Displacing.{reserve_of, unlisted, Lacks, Restocked, ShutOut, Unknown, Unaided, Supplies, Settled, Finished, FurtherIn, FurtherAlone, DefersWith, SpentIn};
+ghost use Rattle.parenting.specs.Displacing.{reserve_of, unlisted, Lacks, Restocked, ShutOut, Unknown, Unaided};
+ghost use Rattle.parenting.specs.Displacing.{Supplies, AdoptsListed, Settled, Finished, FurtherIn, FurtherAlone, DefersWith, SpentIn};
 
 use crate::joining;
 use crate::parent::Parent;
@@ -174,6 +177,50 @@ fn announce_unlisted(s: &mut [u8], new: &mut Waiting, q: &Known, p: Parent) -> b
     joining::announce_next(s, new, p)
 }
 
+// Whether a victim listed is at the hash h.
+fn is_listed(s: &[u8], q: &Known, h: ident::Hash) -> bool
+    requires { Kept s.now × VictimsIn s.now (words q.now.listed.bytes) q.now.listed.count }
+    ensures { ListedAt s.now (words q.now.listed.bytes) q.now.listed.count q.now.listed.count (hash_num h) result }
+{
+    (0..q.listed.count).any(|i| lent_lists::same_hash(
+        ident::Hash::from(q.listed.get(s, i).hash),
+        h,
+    ))
+}
+
+// What the parent brings is adopted in place, if its connection has announced its hash, at which none of those that wait is and none of the victims listed:
+// the former wait on, and the latter stay listed.
+fn adopt_listed(s: &mut [u8], new: &Waiting, q: &Known, p: Parent) -> bool
+    requires { Supplies p.connection.number s.old (words new.now.bytes) (words q.now.listed.bytes) new.now.count (reserve_of q.now) }
+    ensures { AdoptsListed p.connection.number p.clock (hash_num p.hash) p.priority s.old s.new (words new.now.bytes) (words q.now.listed.bytes)
+        new.now.count (reserve_of q.now) result }
+{
+    if q.listed.count == 0 {
+        return false;
+    }
+    if !joining::adoptable(s, new, p.hash, p.connection.number) {
+        return false;
+    }
+    if is_listed(s, q, p.hash) {
+        return false;
+    }
+    announcing::parents::announce_parent(s, p.connection, p.clock, p.hash, p.priority as u64);
+    true
+}
+
+// Announces the parent by itself: it is adopted where those that wait do so on, or they come in first.
+fn announce_apart(s: &mut [u8], new: &mut Waiting, q: &mut Known, p: Parent) -> bool
+    requires { Supplies p.connection.number s.old (words new.old.bytes) (words q.old.listed.bytes) new.old.count (reserve_of q.old) }
+    ensures { FurtherIn p.connection.number p.clock (hash_num p.hash) p.priority s.old s.new (words new.old.bytes) (words new.new.bytes)
+        (words q.old.listed.bytes) (words q.new.listed.bytes) new.old.count (reserve_of q.old) (record { kept = result; waiting = new.new.count; reserve = reserve_of q.new }) }
+{
+    if adopt_listed(s, new, q, p) {
+        return true;
+    }
+    settle(s, new, q, p.connection.number);
+    announce_unlisted(s, new, q, p)
+}
+
 // Announces the parent beside those that wait, and says whether it was kept.
 pub fn announce_further(s: &mut [u8], new: &mut Waiting, q: &mut Known, p: Parent) -> bool
     requires { Supplies p.connection.number s.old (words new.old.bytes) (words q.old.listed.bytes) new.old.count (reserve_of q.old) }
@@ -184,10 +231,7 @@ pub fn announce_further(s: &mut [u8], new: &mut Waiting, q: &mut Known, p: Paren
     match defer_with(s, new, q, p) {
         Fare::Nothing => false,
         Fare::Waits => true,
-        Fare::Alone => {
-            settle(s, new, q, p.connection.number);
-            announce_unlisted(s, new, q, p)
-        }
+        Fare::Alone => announce_apart(s, new, q, p),
     }
 }
 
