@@ -28,8 +28,8 @@ use Rattle.listed_lines.specs.declared.parts.Package as parts-package
 use Rattle.listed_lines.specs.declared.line.Request as line-request
 use Rattle.listed_lines.specs.declared.line.Candidate as line-candidate
 use Rattle.listed_lines.specs.Given.{list_room, owner_of, package_of, request_in, candidate_in}
-use Rattle.restoring.specs.Given.{Appends, PlaceRoom}
-use Rattle.package_stages.specs.Changes.{stage_of, combined_of, wtxids_of}
+use Rattle.restoring.specs.Given.{Appends, PlaceRoom, stage_for}
+use Rattle.package_stages.specs.Changes.{combined_of, wtxids_of}
 use Rattle.reading.specs.Given.{hashes_of}
 
 -- ---- the package
@@ -76,7 +76,7 @@ abbrev pub place_of : List ℕ → List ℕ → line-request.Request → Place
 place_of ws ps q = record {
   hash = quad_number q.key.hash;
   combined = combined_of (package_of ws q.packed);
-  stage = stage_of true (package_of ws q.packed);
+  stage = stage_for (package_of ws q.packed);
   wtxids = wtxids_of (package_of ws q.packed);
   parents = hashes_of q.parents ps;
 }
@@ -84,7 +84,7 @@ place_of ws ps q = record {
 place_some : (r : Request) (i : Bool) (ws : List ℕ) (p : Maybe parts-package.Package) → (i || is_some p) ≡ true → place_for r i (package_of ws p) ≡ record {
   hash = r.key.hash;
   combined = combined_of (package_of ws p);
-  stage = stage_of true (package_of ws p);
+  stage = stage_for (package_of ws p);
   wtxids = wtxids_of (package_of ws p);
   parents = r.parents;
 } ∷ []
@@ -137,7 +137,7 @@ front_few n ws l m = omega (arith, ap length (front_hashes n ws (omega arith)), 
 -- the place behind the others
 pub placed : {b b' : List ℕ} (ws ps : List ℕ) (q : line-request.Request) (z : PlaceRoom b (request_in ws ps q))
     (g : (q.info || is_some q.packed) ≡ true) → list_room ≤ length ws → list_room ≤ length ps
-    → {x v : ℕ} (n : ℕ) → ((us : List ℕ) → x ≡ combined_of (package_of us q.packed)) → ((us : List ℕ) → v ≡ stage_of true (package_of us q.packed))
+    → {x v : ℕ} (n : ℕ) → ((us : List ℕ) → x ≡ combined_of (package_of us q.packed)) → ((us : List ℕ) → v ≡ stage_for (package_of us q.packed))
     → ((us : List ℕ) → hashes_of n us ≡ wtxids_of (package_of us q.packed))
     → Appends b b' (record { hash = quad_number q.key.hash; combined = x; stage = v; wtxids = hashes_in (take (n * 32) ws); parents = hashes_in (take (q.parents * 32) ps) })
     → Turns b b' (λ f. with_places (f.places ++ places_for (request_in ws ps q)) f)

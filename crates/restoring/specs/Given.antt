@@ -1,10 +1,12 @@
 -- What the contracts say: how the lines of a listing come into a store, as lists of records.
 use Rattle.std.specs.Prelude.{ℕ, ◌+◌, ◌≤◌, ◌≡◌, List, [], ◌∷◌, ◌++◌, length}
 use Rattle.std.specs.Prelude.{Option as Maybe, Some, None}
+use Rattle.std.proofs.Math.Option.{Option, none, some}
 use Rattle.regions.specs.declared.Row.{Row}
 use Rattle.places.specs.Places.{Place, PlaceShort}
-use Rattle.machine.specs.State.{Candidate, Request, State, on_table}
+use Rattle.machine.specs.State.{Candidate, Package, Request, State, on_table}
 use Rattle.machine.specs.Sound.{Sound}
+use Rattle.machine.specs.Table.{one}
 use Rattle.machine.specs.Typed.{Each}
 use Rattle.store.specs.Flat.{Flat, head_of, flat_of, row_of, places_for}
 use Rattle.store.specs.Image.{Shows, Writes, need_of}
@@ -21,6 +23,11 @@ use Rattle.listed_form.specs.Given.{Body, requests_only}
 -- the place p comes behind the others
 abbrev pub Appends : List ℕ → List ℕ → Place → Type 0
 Appends b b' p = Turns b b' (λ f. with_places (f.places ++ (p ∷ [])) f)
+
+-- the stage of a place, which has a package or none
+abbrev pub stage_for : Option Package → ℕ
+stage_for none = 1
+stage_for (some p) = 2 + one p.enqueued
 
 -- the place of a request's line, if it has one, finds room: for itself, and its lists for their hashes
 pub record PlaceRoom (b : List ℕ) (r : Request) : Type 0 where

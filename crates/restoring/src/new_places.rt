@@ -1,13 +1,13 @@
 // The place of a request: flag or package, and its lists, from the request's line.
-ghost use Rattle.std.specs.Prelude.{true, ◌≡◌, ℕ, ◌≤◌, ◌<◌, List, ◌++◌, length, Some};
+ghost use Rattle.std.specs.Prelude.{◌≡◌, ℕ, ◌≤◌, ◌<◌, List, ◌++◌, length, Some};
 ghost use Rattle.lent_lists.specs.Lists.{hashes_in};
 ghost use Rattle.regions.specs.Rows.{quad_number};
 ghost use Rattle.places.specs.Places.{list_most};
 ghost use Rattle.store.specs.Flat.{places_for};
 ghost use Rattle.store.specs.Shown.{places_in, held_places_in, Shown, with_places, Turns};
-ghost use Rattle.package_stages.specs.Changes.{stage_word, stage_of, combined_of, wtxids_of};
+ghost use Rattle.package_stages.specs.Changes.{stage_word, combined_of, wtxids_of};
 ghost use Rattle.listed_lines.specs.Given.{list_room, package_of, request_in};
-ghost use Rattle.restoring.specs.Given.{Appends, PlaceRoom};
+ghost use Rattle.restoring.specs.Given.{Appends, stage_for, PlaceRoom};
 ghost use Rattle.reading.specs.Given.{hashes_of};
 
 use ident::HASH_BYTES;
@@ -44,7 +44,7 @@ fn append_place(
 
 // (No From: both types are other crates'.)
 fn stage_of(p: Option<Package>) -> Stage
-    ensures { (ws : List ℕ) → stage_word (Some result) ≡ stage_of true (package_of ws p) }
+    ensures { (ws : List ℕ) → stage_word (Some result) ≡ stage_for (package_of ws p) }
 {
     match p {
         None => Stage::Flagged,
