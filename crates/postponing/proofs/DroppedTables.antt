@@ -1,6 +1,6 @@
 -- The rows of a table without the owners whose time is over.
 use Prim.Native.Nat.{ℕ, ◌≤◌}
-use mathlib.Core.Path.{◌≡◌, refl, sym, ap, subst, ◌∙◌}
+use mathlib.Core.Path.{◌≡◌, refl, sym, ap, ◌∙◌}
 use mathlib.Core.Logic.{inl, inr}
 use mathlib.Core.Bool.{Bool, true, false, ◌&&◌}
 use mathlib.Core.List.{List, [], ◌∷◌, ◌++◌, map}
@@ -10,7 +10,6 @@ use lib.Dec.{leb, eqb}
 use lib.ListN.{length}
 use borrow.Author.Tests.{eqb-true, eqb-false, eq-eqb, ne_eqb}
 use Rattle.std.specs.Prelude.{if◌then◌else◌}
-use Rattle.ident.specs.Number.{Key}
 use Rattle.regions.specs.declared.Row.{Row}
 use Rattle.regions.specs.Regions.{each}
 use Rattle.regions.specs.Rows.{quad_of}
@@ -23,9 +22,8 @@ use Rattle.machine.specs.Sound.{All, Filled, Sound}
 use Rattle.machine.proofs.Tests.{test, never, and_left}
 use Rattle.store.specs.Flat.{own_bit, bits_of, witness_bit, deadline_for, row_of, rows_for, rows_of, place_for, places_for, places_of, tally}
 use Rattle.store.specs.FlatSound.{owns}
-use Rattle.store.specs.Gather.{key_at}
 use Rattle.store.specs.Image.{Writes}
-use Rattle.store.proofs.Bits.{key_row, owns-row}
+use Rattle.store.proofs.Bits.{owns-row}
 use Rattle.store.proofs.Counts.{Distinct, DistinctIn, in_hasnt, distinct_in}
 use Rattle.requests.specs.Changes.{Shorn}
 use Rattle.requests.proofs.Keeping.{writes_by}
@@ -44,22 +42,6 @@ ready-place now r false none = refl
 pub ready_none : (now : ℕ) (r : Request) → places_for r ≡ [] → places_for (readied now r) ≡ []
 unfolding places_for
 ready_none now r e = ready-place now r r.info r.«package» ∙ e
-
--- ---- the owners at the keys that pass p
-
-abbrev pub dropped_at : (Key → Bool) → ℕ → Request → Request
-dropped_at p now r = if p r.key && late now r.owner then gone (owner_num r.owner) r else r
-
-unfoldable pub dropped_by : (Key → Bool) → ℕ → Table → Table
-dropped_by p now [] = []
-dropped_by p now (r ∷ t) = keep (dropped_at p now r) (dropped_at p now r).candidates (dropped_by p now t)
-
--- who is late there has no place
-abbrev pub UnburdenedBy : (Key → Bool) → ℕ → Table → Type 0
-UnburdenedBy p now t = All (λ r. (p r.key && late now r.owner) ≡ true → places_for r ≡ []) t
-
-abbrev pub due_row : (Key → Bool) → ℕ → Row → Bool
-due_row p now r = p (key_at r) && is_due now r
 
 -- a row that goes owns its request
 pub due-owns : (now : ℕ) (r : Row) {y : Bool} → y ≡ is_due now r → y ≡ true → 1 ≡ own_bit r
@@ -155,52 +137,17 @@ module _ (now : ℕ) where
   keep-rows r [] t e = rw e
   keep-rows r (c ∷ cs) t e = refl
 
-  none_pass : (l : List Row) → each (kept_row (λ r. false)) l ≡ l
-  unfolding each kept_row
-  none_pass [] = refl
-  none_pass (r ∷ l) = ap (λ (x : List Row). r ∷ x) (none_pass l)
-
-  kept_as : (f g : Row → Bool) (r : Row) → f r ≡ g r → kept_row f r ≡ kept_row g r
-  unfolding kept_row
-  kept_as f g r e = ap (λ (b : Bool). if b then [] else r ∷ []) e
-
-  -- ---- at the keys that pass p
-
-  module _ (p : Key → Bool) where
-    at-key : (q : Request) (b : Bool) → p q.key ≡ b → (cs : List Candidate)
-        → each (kept_row (due_row p now)) (map (row_of q) cs) ≡ each (kept_row (λ r. b && is_due now r)) (map (row_of q) cs)
-    unfolding each
-    at-key q b e [] = refl
-    at-key q b e (c ∷ cs) =
-        let x = row_of q c in
-        let same : due_row p now x ≡ (b && is_due now x) = ap (λ (k : Key). p k && is_due now x) (key_row q c) ∙ ap (λ (y : Bool). y && is_due now x) e in
-        (λ i. kept_as (due_row p now) (λ r. b && is_due now r) x same i ++ at-key q b e cs i)
-
-    rows_by : (q : Request) → DistinctIn q → each (kept_row (due_row p now)) (rows_for q) ≡ rows_for (dropped_at p now q)
-    rows_by q d = by_key (p q.key) refl
-      where
-        parts : (b : Bool) → p q.key ≡ b → each (kept_row (due_row p now)) (rows_for q) ≡ each (kept_row (λ r. b && is_due now r)) (rows_for q)
-        parts b e = unfold rows_for in at-key q b e q.candidates
-
-        by_key : (b : Bool) → p q.key ≡ b → each (kept_row (due_row p now)) (rows_for q) ≡ rows_for (dropped_at p now q)
-        by_key true e =
-            parts true e ∙ rows_dropped q d
-            ∙ sym (ap (λ (b : Bool). rows_for (if b && late now q.owner then gone (owner_num q.owner) q else q)) e)
-        by_key false e =
-            parts false e ∙ none_pass (rows_for q)
-            ∙ sym (ap (λ (b : Bool). rows_for (if b && late now q.owner then gone (owner_num q.owner) q else q)) e)
-
-    rows_left_lem : (t : Table) → All DistinctIn t → rows_of (dropped_by p now t) ≡ each (kept_row (due_row p now)) (rows_of t)
-    unfolding dropped_by
-    rows_left_lem [] d = unfold each in refl
-    rows_left_lem (q ∷ t) d =
-        keep-rows (dropped_at p now q) (dropped_at p now q).candidates (dropped_by p now t) refl
-        ∙ ap (λ (x : List Row). rows_for (dropped_at p now q) ++ x) (rows_left_lem t d.1)
-        ∙ ap (λ (x : List Row). x ++ each (kept_row (due_row p now)) (rows_of t)) (sym (rows_by q d.0))
-        ∙ sym (first ∙ each_append (kept_row (due_row p now)) (rows_for q) (rows_of t))
-      where
-        first : each (kept_row (due_row p now)) (rows_of (q ∷ t)) ≡ each (kept_row (due_row p now)) (rows_for q ++ rows_of t)
-        first = ap (each (kept_row (due_row p now))) (unfold each in refl)
+  rows_left_lem : (t : Table) → All DistinctIn t → rows_of (dropped_all now t) ≡ each (kept_row (is_due now)) (rows_of t)
+  unfolding dropped_all
+  rows_left_lem [] d = unfold each in refl
+  rows_left_lem (q ∷ t) d =
+      keep-rows (dropped_in now q) (dropped_in now q).candidates (dropped_all now t) refl
+      ∙ ap (λ (x : List Row). rows_for (dropped_in now q) ++ x) (rows_left_lem t d.1)
+      ∙ ap (λ (x : List Row). x ++ each (kept_row (is_due now)) (rows_of t)) (sym (rows_dropped q d.0))
+      ∙ sym (first ∙ each_append (kept_row (is_due now)) (rows_for q) (rows_of t))
+    where
+      first : each (kept_row (is_due now)) (rows_of (q ∷ t)) ≡ each (kept_row (is_due now)) (rows_for q ++ rows_of t)
+      first = ap (each (kept_row (is_due now))) (unfold each in refl)
 
   -- ---- places stay
 
@@ -216,30 +163,18 @@ module _ (now : ℕ) where
   some_candidate : (cs : List Candidate) → 1 ≤ length cs → cs ≡ [] → ⊥
   some_candidate cs h e = omega (arith, ap length e)
 
-  module _ (p : Key → Bool) where
-    places_stay : (t : Table) → All Filled t → UnburdenedBy p now t → places_of (dropped_by p now t) ≡ places_of t
-    unfolding dropped_by each
-    places_stay [] f a = refl
-    places_stay (r ∷ t) f a =
-        elim (test (p r.key && late now r.owner)) [
-          | inl e ↦ rw e (keep_places _ _ (dropped_by p now t) (λ z. bare r _) ∙ ap (λ (x : List Place). x ++ places_of (dropped_by p now t)) (bare r _ ∙ sym (a.0 e))
-              ∙ ap (λ (x : List Place). places_for r ++ x) (places_stay t f.1 a.1))
-          | inr e ↦ rw e (keep_places r r.candidates (dropped_by p now t) (λ z. absurd (some_candidate r.candidates f.0 z)) ∙ ap (λ (x : List Place). places_for r ++ x) (places_stay t f.1 a.1))
-        ]
-
-    pub dropped-by : {b : List ℕ} (st : State) → Sound st → UnburdenedBy p now st.table
-        → Shorn b st (each (kept_row (due_row p now)) (rows_of st.table)) (each (kept_row (due_row p now)) (rows_of st.table)) → Writes b (on_table (dropped_by p now st.table) st)
-    dropped-by st s u h =
-        let e = rows_left_lem p st.table (distinct_in st.table s.bounded.once) in
-        writes_by st (dropped_by p now st.table) e (ap tally e) (places_stay st.table s.bounded.filled u) h
-
-  -- ---- at all keys
-
-  all_by : (t : Table) → dropped_by (λ k. true) now t ≡ dropped_all now t
-  unfolding dropped_by dropped_all
-  all_by [] = refl
-  all_by (r ∷ t) = ap (keep (dropped_in now r) (dropped_in now r).candidates) (all_by t)
+  places_stay : (t : Table) → All Filled t → Unburdened now t → places_of (dropped_all now t) ≡ places_of t
+  unfolding dropped_all each
+  places_stay [] f a = refl
+  places_stay (r ∷ t) f a =
+      elim (test (late now r.owner)) [
+        | inl e ↦ rw e (keep_places _ _ (dropped_all now t) (λ z. bare r _) ∙ ap (λ (x : List Place). x ++ places_of (dropped_all now t)) (bare r _ ∙ sym (a.0 e))
+            ∙ ap (λ (x : List Place). places_for r ++ x) (places_stay t f.1 a.1))
+        | inr e ↦ rw e (keep_places r r.candidates (dropped_all now t) (λ z. absurd (some_candidate r.candidates f.0 z)) ∙ ap (λ (x : List Place). places_for r ++ x) (places_stay t f.1 a.1))
+      ]
 
   pub dropped-writes : {b : List ℕ} (st : State) → Sound st → Unburdened now st.table → Shorn b st (each (kept_row (is_due now)) (rows_of st.table)) (each (kept_row (is_due now)) (rows_of st.table))
       → Writes b (on_table (dropped_all now st.table) st)
-  dropped-writes {b} st s u h = subst (λ (t : Table). Writes b (on_table t st)) (all_by st.table) (dropped-by (λ k. true) st s u h)
+  dropped-writes st s p h =
+      let e = rows_left_lem st.table (distinct_in st.table s.bounded.once) in
+      writes_by st (dropped_all now st.table) e (ap tally e) (places_stay st.table s.bounded.filled p) h

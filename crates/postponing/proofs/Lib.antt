@@ -1,5 +1,4 @@
 pub mod DroppedTables
-pub mod Windowed
 pub mod Dropping
 pub mod Dropped
 pub mod DroppedCounts
