@@ -22,7 +22,7 @@ use requests::windows::Windows;
 use requests::{Window, windows};
 
 // Whether one of the first n victims listed is at the hash h.
-fn listed_at(s: &[u8], top: &Victims, n: usize, h: ident::Hash) -> bool
+pub fn listed_at(s: &[u8], top: &Victims, n: usize, h: ident::Hash) -> bool
     requires { Kept s.now × VictimsIn s.now (words top.now.bytes) top.now.count × (n ≤ top.now.count) }
     ensures { ListedAt s.now (words top.now.bytes) top.now.count n (hash_num h) result }
 {

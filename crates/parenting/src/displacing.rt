@@ -4,9 +4,7 @@ ghost use Rattle.std.specs.Prelude.{◌≡◌, true, ◌≤◌};
 ghost use Rattle.ident.specs.Words.{hash_num};
 ghost use Rattle.words.specs.Words.{words};
 ghost use Rattle.store.specs.Shown.{Kept};
-ghost use Rattle.announcing.specs.Falls.{VictimsIn};
 ghost use Rattle.gathering.specs.Counted.{then_wait};
-ghost use Rattle.gathering.specs.Deferring.{ListedAt};
 ghost use Rattle.parenting.specs.Waiting.{Waits};
 ghost use Rattle.parenting.specs.Displacing.{reserve_of, unlisted, Lacks, Restocked, ShutOut, Unknown, Unaided};
 ghost use Rattle.parenting.specs.Displacing.{Supplies, AdoptsListed, Settled, Finished, FurtherIn, FurtherAlone, DefersWith, SpentIn};
@@ -177,17 +175,6 @@ fn announce_unlisted(s: &mut [u8], new: &mut Waiting, q: &Known, p: Parent) -> b
     joining::announce_next(s, new, p)
 }
 
-// Whether a victim listed is at the hash h.
-fn is_listed(s: &[u8], q: &Known, h: ident::Hash) -> bool
-    requires { Kept s.now × VictimsIn s.now (words q.now.listed.bytes) q.now.listed.count }
-    ensures { ListedAt s.now (words q.now.listed.bytes) q.now.listed.count q.now.listed.count (hash_num h) result }
-{
-    (0..q.listed.count).any(|i| lent_lists::same_hash(
-        ident::Hash::from(q.listed.get(s, i).hash),
-        h,
-    ))
-}
-
 // What the parent brings is adopted in place, if its connection has announced its hash, at which none of those that wait is and none of the victims listed:
 // the former wait on, and the latter stay listed.
 fn adopt_listed(s: &mut [u8], new: &Waiting, q: &Known, p: Parent) -> bool
@@ -201,7 +188,7 @@ fn adopt_listed(s: &mut [u8], new: &Waiting, q: &Known, p: Parent) -> bool
     if !joining::adoptable(s, new, p.hash, p.connection.number) {
         return false;
     }
-    if is_listed(s, q, p.hash) {
+    if gathering::deferred::listed_at(s, &q.listed, q.listed.count, p.hash) {
         return false;
     }
     announcing::parents::announce_parent(s, p.connection, p.clock, p.hash, p.priority as u64);

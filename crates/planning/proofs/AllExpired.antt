@@ -34,7 +34,8 @@ use Rattle.apart.proofs.BareTable.{sound-bare}
 use Rattle.apart.proofs.Overdue.{front_is, rest_stays, slots_rest}
 use Rattle.apart.proofs.OneOwner.{noted_none, around_within}
 use Rattle.postponing.specs.Pending.{Unplaced}
-use Rattle.planning.specs.Expiring.{expire_one, due_from, still_from, Leads, DueNext, ExpiresAll}
+use Rattle.apart.specs.Lapsing.{expire_at}
+use Rattle.planning.specs.Expiring.{due_from, still_from, Leads, DueNext, ExpiresAll}
 use Rattle.planning.proofs.BareDue.{due_from_bare}
 use Rattle.planning.proofs.StillDue.{Basis, basis, front_keeps}
 use Rattle.planning.proofs.Overdue.{due_cases, due_first, Expiring, expiring_start, expiring_end, expiring_more}
@@ -172,8 +173,8 @@ module _ {b₀ b f₀ f : List ℕ} {m c now x low : ℕ} {e : Delay} {k : Key} 
       let g = way st ps o count in
       let s = g.around.sound in
       let y = one.goes (on_table g.table st) g.places g.around (count ∙ same_long ps g.places g.hashes_same) (next-owns st ps o count) g.none_left in
-      let t₁ = (expire_one (limits_of st) now k n g.table).table in
-      let ks₁ = (expire_one (limits_of st) now k n g.table).keys in
+      let t₁ = (expire_at (limits_of st) now k n g.table).table in
+      let ks₁ = (expire_at (limits_of st) now k n g.table).keys in
       let here : ClearAt (place k) g.places = λ j d h l. g.later j d h (omega (arith, next.from)) in
       let more = expiring_more g.going (record { key = k; connection = n }) _ w s.bounded (next-due st ps o count) in
       record {

@@ -23,7 +23,8 @@ use Rattle.machine.proofs.Plan.{DueTyped, bounded-due}
 use Rattle.machine.proofs.Same.{walk, walk_same}
 use Rattle.machine.proofs.Table.{at_key, lawful_at}
 use Rattle.machine.proofs.Tests.{test, by_test}
-use Rattle.planning.specs.Expiring.{expire_one, due_here, due_from}
+use Rattle.apart.specs.Lapsing.{expire_at}
+use Rattle.planning.specs.Expiring.{due_here, due_from}
 
 -- ---- tables whose owners agree from a place on have the same due there
 
@@ -121,7 +122,7 @@ due_first now x lo (r ∷ t) d ds o l e =
 
 module _ {m : Limits} {Q : ℕ} {t : Table} (now : ℕ) (d : Due) (w : now < word) (a : DueTyped d) (b : Bounded m Q t) where
   abbrev after : Table
-  after = (expire_one m now d.key d.connection t).table
+  after = (expire_at m now d.key d.connection t).table
 
   owner_stays : (j : Key) → j.hash < top → (place j ≡ place d.key → ⊥) → (at j after).owner ≡ (at j t).owner
   owner_stays j s n =
@@ -151,10 +152,10 @@ module _ {m : Limits} {now x : ℕ} {all : Listed} {t : Table} {ks : List Key} (
   expiring_end e = (sym (append-nil ks) ∙ sym (ap (λ (ds : List Due). ks ++ (expire m now ds t).keys) e) ∙ g.keys, sym (ap (λ (ds : List Due). (expire m now ds t).table) e) ∙ g.table)
 
   pub expiring_more : {Q : ℕ} (d : Due) (ds : List Due) → now < word → Bounded m Q t → due_from now x t ≡ d ∷ ds
-      → Expiring m now all (suc (place d.key)) (expire_one m now d.key d.connection t).table (ks ++ (expire_one m now d.key d.connection t).keys)
+      → Expiring m now all (suc (place d.key)) (expire_at m now d.key d.connection t).table (ks ++ (expire_at m now d.key d.connection t).keys)
   unfolding expire
   expiring_more d ds w b e =
-      let a = expire_one m now d.key d.connection t in
+      let a = expire_at m now d.key d.connection t in
       let f = due_first now x 0 t d ds b.ordered b.lawful e in
       let q : due_from now (suc (place d.key)) a.table ≡ ds = due-behind now d w f.typed b ∙ f.rest in
       record {

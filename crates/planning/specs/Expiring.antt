@@ -5,10 +5,8 @@ use Rattle.std.specs.Prelude as rust
 use Rattle.ident.specs.Number.{top, Key, place}
 use Rattle.ident.specs.Words.{key_num}
 use Rattle.regions.specs.declared.Row.{Row}
-use Rattle.machine.specs.Limits.{Limits}
 use Rattle.machine.specs.State.{Owner, Request, Table, State, on_table}
 use Rattle.machine.specs.Table.{at}
-use Rattle.machine.specs.Fail.{Listed, failed, announce_parents, parents_for}
 use Rattle.machine.specs.Plan.{Due, due_of, expired}
 use Rattle.store.specs.Flat.{Flat}
 use Rattle.store.specs.Gather.{key_at}
@@ -21,10 +19,6 @@ use Rattle.apart.specs.Apart.{Slot, resting, ClearFrom, Apart}
 use Rattle.apart.specs.Lapsing.{noted}
 use Rattle.postponing.specs.Silent.{is_due}
 use Rattle.planning.specs.declared.expiring.Overdue.{Overdue}
-
--- one owner whose time is over: it fails, and its parents are announced for it
-abbrev pub expire_one : Limits → ℕ → Key → ℕ → Table → Listed
-expire_one m now k n t = announce_parents m n now (parents_for n (at k t)) (failed k n now t).table
 
 -- the owners that are due at the keys from the place x on
 abbrev pub due_here : ℕ → ℕ → Request → List Due

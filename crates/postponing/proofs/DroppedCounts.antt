@@ -16,8 +16,8 @@ use Rattle.machine.proofs.Change.{without_fewer}
 use Rattle.machine.proofs.Table.{at_absent}
 use Rattle.machine.proofs.Tests.{test}
 use Rattle.requests.proofs.AtHash.{at-hash, held-at}
-use Rattle.package_stages.specs.Changes.{has_place}
-use Rattle.postponing.specs.Silent.{late, owner_num, dropped_in, dropped_all}
+use Rattle.package_stages.specs.Changes.{has_place, owner_num}
+use Rattle.postponing.specs.Silent.{late, dropped_in, dropped_all}
 use Rattle.postponing.specs.Pending.{Unplaced, Plain, Living}
 use Rattle.postponing.proofs.Dropped.{all_keep, ordered_dropped, at_stays}
 

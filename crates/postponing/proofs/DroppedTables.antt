@@ -30,7 +30,8 @@ use Rattle.requests.proofs.Keeping.{writes_by}
 use Rattle.announcing.specs.Drops.{kept_row}
 use Rattle.failing.specs.Changes.{readied}
 use Rattle.announcing.proofs.DroppingRows.{row_goes, row_stays}
-use Rattle.postponing.specs.Silent.{owner_num, late, gone, dropped_in, dropped_all, Unburdened, is_due}
+use Rattle.package_stages.specs.Changes.{owner_num}
+use Rattle.postponing.specs.Silent.{late, gone, dropped_in, dropped_all, Unburdened, is_due}
 
 -- ---- candidates made ready keep the place
 

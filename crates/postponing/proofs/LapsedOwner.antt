@@ -27,7 +27,8 @@ use Rattle.failing.proofs.Leaving.{without-ready}
 use Rattle.store.specs.Flat.{places_for}
 use Rattle.failing.specs.Changes.{readied}
 use Rattle.failing.proofs.Readied.{shrinks_ready}
-use Rattle.postponing.specs.Silent.{readied_both, late, owner_num, gone, dropped_in, dropped_all, Unburdened}
+use Rattle.package_stages.specs.Changes.{owner_num}
+use Rattle.postponing.specs.Silent.{readied_both, late, gone, dropped_in, dropped_all, Unburdened}
 use Rattle.postponing.proofs.Dropping.{gone_none, both_swap, owner-has, failed_is}
 use Rattle.postponing.proofs.DroppedTables.{ready_none}
 use Rattle.postponing.specs.Lapses.{lapses, overdue, lapsed}

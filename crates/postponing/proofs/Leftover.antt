@@ -23,7 +23,8 @@ use Rattle.parenting.specs.Displacing.{Spent}
 use Rattle.parenting.proofs.Marking.{entries-preferred}
 use Rattle.parenting.proofs.Spent.{victims-marks}
 use Rattle.parenting.proofs.SpentStill.{Quiet, Stays, spent_all, all_spent, each_stays, stays_none, once_freed}
-use Rattle.postponing.specs.Silent.{late, owner_num, gone, dropped_in, dropped_all}
+use Rattle.package_stages.specs.Changes.{owner_num}
+use Rattle.postponing.specs.Silent.{late, gone, dropped_in, dropped_all}
 use Rattle.postponing.specs.Pending.{Pending}
 use Rattle.postponing.proofs.DroppedCounts.{all_dropped}
 

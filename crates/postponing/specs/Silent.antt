@@ -9,6 +9,7 @@ use Rattle.machine.specs.Announce.{without}
 use Rattle.machine.specs.Sound.{All}
 use Rattle.store.specs.Flat.{places_for}
 use Rattle.store.specs.FlatSound.{owns}
+use Rattle.package_stages.specs.Changes.{owner_num}
 use Rattle.failing.specs.Changes.{readied}
 
 -- ---- the machine in two steps: all candidates beside those who fail are ready, under both kinds; then they go
@@ -19,11 +20,6 @@ readied_both now k t = change (other k) (readied now) (change k (readied now) t)
 abbrev pub late : ℕ → Option Owner → Bool
 late now none = false
 late now (some o) = leb o.deadline now
-
--- the owner's connection; no connection is 0
-abbrev pub owner_num : Option Owner → ℕ
-owner_num none = 0
-owner_num (some o) = o.connection
 
 -- the connection goes, and with it the owner
 abbrev pub gone : ℕ → Request → Request

@@ -11,10 +11,6 @@ use Rattle.gathering.specs.Aside.{space, Aside}
 use Rattle.wrapping.specs.declared.offering.Terms.{Terms}
 use Rattle.claims.specs.Changes.{Becomes}
 
--- what is lent are bytes
-abbrev pub Bytes : List ℕ → Type 0
-Bytes b = (i : ℕ) → get_or b i 0 < 256
-
 -- the offers from the i-th on and before the j-th
 abbrev pub between : ℕ → ℕ → List Offer → List Offer
 between i j os = take (j - i) (drop i os)

@@ -5,13 +5,14 @@ ghost use Rattle.words.specs.Words.{words};
 ghost use Rattle.machine.specs.Limits.{max_in_flight, source_delay};
 ghost use Rattle.machine.specs.Table as table;
 ghost use Rattle.machine.specs.Wrapper as machine;
+ghost use Rattle.store.specs.Image.{Bytes};
 ghost use Rattle.store.specs.Shown.{Kept};
 ghost use Rattle.lent_lists.specs.Items.{offers_in};
 ghost use Rattle.requests.specs.Changes.{candidate_of, Tells};
 ghost use Rattle.announcing.specs.Falls.{VictimsIn};
 ghost use Rattle.gathering.specs.Aside.{Empty};
 ghost use Rattle.claims.specs.Changes.{Becomes};
-ghost use Rattle.wrapping.specs.Batches.{between, announced, Bytes, Offers, Collects, Announced};
+ghost use Rattle.wrapping.specs.Batches.{between, announced, Offers, Collects, Announced};
 ghost use Rattle.wrapping.specs.Swaps.{Whole, Swaps, Went, Settled};
 
 use announcing::foremost::Victims;
