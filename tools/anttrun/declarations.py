@@ -38,6 +38,7 @@ class Module:
     file: str
     mods: list = field(default_factory=list)
     uses: list = field(default_factory=list)       # (path, [(name, local name)] or None, alias or None, tok)
+    passed: list = field(default_factory=list)     # local names of a `pub use`, which a module that uses this one may name
     fixities: dict = field(default_factory=dict)   # name -> (associativity, level)
     decls: list = field(default_factory=list)
 
@@ -85,6 +86,8 @@ def declarations(blocks, module, decls):
         head, rest = toks[0], toks[1:]
         if head.is_("use"):
             module.uses.extend(use_line(rest))
+            if "pub" in marks:
+                module.passed += [local for _, names, _, _ in use_line(rest) for _, local in names or []]
         elif head.is_("mod"):
             module.mods.append(rest[0].text)
         elif head.is_("infix", "infixl", "infixr"):

@@ -147,6 +147,8 @@ class Program(Resolver, Strictness):
         self.scopes[key] = scope
         for used in module.uses:
             self.use(scope, used)
+        for name in module.passed:
+            scope.own[name] = scope.names[name]
         for name, fixity in module.fixities.items():
             scope.fixities[name] = fixity
         for d in module.decls:

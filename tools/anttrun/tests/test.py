@@ -55,7 +55,7 @@ def values(m):
         (run("compose", lambda x: x + 1, lambda x: x * 2, 5), 11),
         (run("found", [4, 5], 1), anttrun.Some(5)), (run("found", [4, 5], 2), None),
         (run("where-uses", [5, 1, 9, 2], 5), [1, 2]), (m[MORE + "size"]([1, 2]), 4),
-        (anttrun.plain(m[MORE + "shape"](7)), ("Box", 7, 2)),
+        (anttrun.plain(m[MORE + "shape"](7)), ("Box", 7, 2)), (m["specs.Further.further"](3), m[MORE + "other_size"](3)),
         (m[MORE + "kind_num"](True), 0), (m[MORE + "kind_num"](False), 5),
         (anttrun.plain(m[MORE + "moved"](m["Rattle.features.specs.declared.Point.Point"](across=1, up=[4]))), {"across": 2, "up": [4]}),
         (m[MORE + "other_size"](5), 105), (far == near, False), (m["Rattle.beside.specs.Beside.swap"](far).NAME, "Wtxid"),
