@@ -48,4 +48,4 @@ def asked(copy, edits):
 
 
 if __name__ == "__main__":
-    print("\n".join(asked(sys.argv[1], sys.argv[2:])))
+    sys.stdout.writelines(f"{function}\n" for function in asked(sys.argv[1], sys.argv[2:]))
