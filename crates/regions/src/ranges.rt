@@ -6,12 +6,14 @@ ghost use Rattle.regions.specs.Rows.{row_size, row_words};
 
 use crate::ROW;
 
-// Moves m words down by d rows. (A key has at most 8 rows; with a constant distance the move is compiled to a memmove.)
+// Moves m words down by d rows. (A key has at most 8 rows; with a constant distance the move is compiled to a memmove. By none, as where no request is, every word would be
+// stored where it stands.)
 fn rows_down_by(s: &mut [u8], m: usize, d: usize)
     requires { 8 * (m + row_size * d) ≤ length s.old }
     ensures { words s.new ≡ down (row_size * d) (words s.old) 0 m }
 {
     match d {
+        0 => {}
         1 => words::shift_down(s, m, ROW),
         2 => words::shift_down(s, m, 2 * ROW),
         3 => words::shift_down(s, m, 3 * ROW),
