@@ -16,6 +16,9 @@ use machine::limits::MAX_PARENTS;
 
 // ---- hashes in
 
+// Words of a hash.
+const HASH_WORDS: usize = ident::HASH_BYTES / 8;
+
 // So many as stand whole in the bytes. (A function for each kind of list: the clause names the list.)
 pub fn hashes(s: &[u8]) -> usize
     ensures { result ≡ length (hashes_in s.now) }
@@ -38,13 +41,21 @@ pub fn same_hash(a: ident::Hash, b: ident::Hash) -> bool
     a == b
 }
 
+// Whether the i-th hash is h. (Its first word is tested where it stands: two hashes mostly differ there, and no more is read then. The derived test alone reads all four words each time.)
+fn is_hash(s: &[u8], i: usize, h: ident::Hash) -> bool
+    requires { i < length (hashes_in s.now) }
+    ensures { result ≡ eqb (get_or (hashes_in s.now) i 0) (hash_num h) }
+{
+    words::get(s, i * HASH_WORDS) == h.words[0] && same_hash(hash_in(s, i), h)
+}
+
 // Whether the i-th hash is one of those before it.
 pub fn occurs_before(s: &[u8], i: usize) -> bool
     requires { i < length (hashes_in s.now) }
     ensures { result ≡ elem (get_or (hashes_in s.now) i 0) (take i (hashes_in s.now)) }
 {
     let h = hash_in(s, i);
-    (0..i).any(|j| same_hash(hash_in(s, j), h))
+    (0..i).any(|j| is_hash(s, j, h))
 }
 
 // ---- a word and a hash
