@@ -14,15 +14,31 @@ use Rattle.lent_lists.specs.Items.{item_bytes, item_in, items_in}
 use Rattle.machine.specs.Fields.{number_of, key_of, item_of, taking}
 use Rattle.reading.specs.Line.{Asks, Send}
 use Rattle.reading.specs.Lists.{key_list_call, item_list_call, send_line}
-use Rattle.reading.specs.Given.{longest_line, WholeList}
+use Rattle.reading.specs.Given.{longest_line, FrontList, WholeList}
 use Rattle.reading.proofs.Stored.{all_counted}
 use Rattle.inventory.proofs.Sizes.{number-takes, key-takes, item-takes}
 use denote.Ref.{Bor}
 use Rattle.std.specs.Prelude as answer
 use Rattle.std.specs.Prelude.{None, Some}
-use Rattle.inventory.specs.Given.{most_listed, KeysGiven, ItemsGiven, most_numbers, number_bytes, NumbersGiven}
+use Rattle.inventory.specs.Given.{most_listed, items_of, Front, KeysGiven, ItemsGiven, most_numbers, number_bytes, NumbersFront, NumbersGiven}
 
 -- a list as it was read
+
+module _ {l : List ℕ} {e : ℕ} (m : length l ≤ longest_line) {b : List ℕ} where
+  pub keys-front : {r : answer.Option ℕ} → FrontList (taking key_of) key_bytes key_in l e most_listed b r → Front key_list_call l e most_listed (λ n. keys_in n b) r
+  unfolding key_list_call keys_in
+  keys-front {r = None} q = record { is = λ ask. q.is 3 key-takes (omega (arith, m)) (λ ks. Asks (On (ask ks))) }
+  keys-front {r = Some n} q = record { is = (q.is.0, λ ask. q.is.1 (λ ks. Asks (On (ask ks)))) }
+
+  pub items-front : {r : answer.Option ℕ} → FrontList (taking item_of) item_bytes item_in l e most_listed b r → Front item_list_call l e most_listed (λ n. items_of n b) r
+  unfolding item_list_call
+  items-front {r = None} q = record { is = λ ask. q.is 3 item-takes (omega (arith, m)) (λ is. Asks (On (ask is))) }
+  items-front {r = Some n} q = record { is = (q.is.0, λ ask. q.is.1 (λ is. Asks (On (ask is)))) }
+
+  pub numbers-front : {r : answer.Option ℕ} → FrontList (taking number_of) number_bytes (number 256) l e most_numbers b r → NumbersFront l e b r
+  unfolding send_line
+  numbers-front {r = None} q = record { is = q.is 2 number-takes (omega (arith, m)) Send }
+  numbers-front {r = Some n} q = record { is = (q.is.0, q.is.1 Send) }
 
 module _ {l : List ℕ} {e : ℕ} (m : length l ≤ longest_line) where
   pub keys-given : {r : answer.Option (Bor (List ℕ))} → WholeList (taking key_of) key_bytes key_in l e most_listed r → KeysGiven l e r

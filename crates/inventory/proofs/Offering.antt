@@ -1,6 +1,6 @@
 -- Items with their priorities.
 use Prim.Native.Nat.{ℕ, ◌+◌, ◌*◌, ◌≤◌}
-use mathlib.Core.Path.{◌≡◌, refl, sym, ap, ◌∙◌}
+use mathlib.Core.Path.{◌≡◌, refl, sym, ap, subst, ◌∙◌}
 use mathlib.Core.List.{List, [], ◌∷◌, ◌++◌}
 use mathlib.Core.Option.{Option, none, some}
 use native.Mathlib.Omega.{arith}
@@ -11,17 +11,17 @@ use Rattle.ident.specs.Number.{Item}
 use Rattle.words.specs.Words.{number, words, recs}
 use Rattle.words.proofs.Records.{length-recs}
 use Rattle.machine.specs.Wrapper.{Offer}
-use Rattle.machine.specs.Call.{On}
+use Rattle.machine.specs.Call.{Ask, On}
 use Rattle.lent_lists.specs.Items.{item_bytes, item_in, items_in, paired, offers_in}
-use Rattle.machine.specs.Fields.{number_of, item_of, taking}
+use Rattle.machine.specs.Fields.{number_of, item_of, rest, taking}
 use Rattle.reading.specs.Line.{Asks}
 use Rattle.reading.specs.Lists.{offer_of, offer_then, offers_call}
 use Rattle.reading.specs.Given.{At, ElementRead, FieldRead, NoList, IsList}
 use Rattle.reading.proofs.Taking.{field_not, field_is}
 use Rattle.reading.proofs.Stored.{all_stored}
 use Rattle.inventory.specs.declared.offers.Offers.{Offers}
-use Rattle.std.specs.Prelude.{None, Some}
-use Rattle.inventory.specs.Given.{most_offers, item_room, priority_room, items_of, number_bytes, numbers_of, offers_of, OfferPut, OffersGiven}
+use Rattle.std.specs.Prelude as answer
+use Rattle.inventory.specs.Given.{most_offers, item_room, priority_room, FrontAs, Front, items_of, number_bytes, numbers_of, offers_of, OfferPut, OffersGiven}
 use Rattle.inventory.proofs.Plain.{plain-item}
 
 -- ---- one offer: an item, and the number behind it
@@ -73,9 +73,21 @@ numbers-stored : (n : ℕ) (b : List ℕ) → number_bytes * n ≤ length b → 
 unfolding words
 numbers-stored n b s = all_stored number_bytes (number 256) n b (lit≤ tt) s
 
-pub no-offers : {l : List ℕ} {e : ℕ} → NoList offer_then l e → OffersGiven l e None
+pub no-front : {l : List ℕ} {e : ℕ} {first : ℕ → List Offer} → NoList offer_then l e → Front offers_call l e most_offers first answer.None
 unfolding offers_call
-no-offers g = record { is = λ ask. g (λ os. Asks (On (ask os))) }
+no-front g = record { is = λ ask. g (λ os. Asks (On (ask os))) }
+
+pub front-is : {l : List ℕ} {e : ℕ} (first : ℕ → List Offer) {n : ℕ} → n ≤ most_offers → IsList offer_then l e (first n) → Front offers_call l e most_offers first (answer.Some n)
+unfolding offers_call
+front-is first f w = record { is = (f, λ ask. w (λ os. Asks (On (ask os)))) }
+
+-- the list as it was read
+module _ {l : List ℕ} {e : ℕ} {first : ℕ → List Offer} {r : answer.Option ℕ} (q : Front offers_call l e most_offers first r) where
+  pub unlisted : r ≡ answer.None → OffersGiven l e answer.None
+  unlisted g = record { is = subst (FrontAs offers_call l e most_offers first) g q.is }
+
+  pub listed : {n : ℕ} → r ≡ answer.Some n → FrontAs offers_call l e most_offers first (answer.Some n)
+  listed g = subst (FrontAs offers_call l e most_offers first) g q.is
 
 -- the bytes of both, as they are lent
 module _ {n : ℕ} (b c : List ℕ) (f : n ≤ most_offers) (i : item_room ≤ length b) (j : priority_room ≤ length c) (o : Offers) (g : o.items.now ≡ take (n * item_bytes) b)
@@ -83,8 +95,7 @@ module _ {n : ℕ} (b c : List ℕ) (f : n ≤ most_offers) (i : item_room ≤ l
   offers-stored : offers_in o.items.now o.priorities.now ≡ offers_of n b c
   offers-stored = rw (g, h, items-stored n b (omega arith), numbers-stored n c (omega arith))
 
-  pub offers-are : {l : List ℕ} {e : ℕ} → IsList offer_then l e (offers_of n b c) → OffersGiven l e (Some o)
-  unfolding offers_call
+  pub offers-are : {l : List ℕ} {e : ℕ} → ((ask : List Offer → Ask) → offers_call ask (rest l (e + 1)) ≡ some (Asks (On (ask (offers_of n b c))))) → OffersGiven l e (answer.Some o)
   offers-are w =
       record {
         is = record {
@@ -92,7 +103,7 @@ module _ {n : ℕ} (b c : List ℕ) (f : n ≤ most_offers) (i : item_room ≤ l
             n = n;
             few = f;
             long = rw g (length-take-le (n * item_bytes) b (omega arith));
-            is = λ ask. w (λ os. Asks (On (ask os))) ∙ ap (λ (os : List Offer). some (Asks (On (ask os)))) (sym offers-stored);
+            is = λ ask. w ask ∙ ap (λ (os : List Offer). some (Asks (On (ask os)))) (sym offers-stored);
           };
           paired = rw h (length-take-le (n * number_bytes) c (omega arith));
         };

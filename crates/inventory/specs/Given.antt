@@ -33,6 +33,14 @@ pub record Held {A : Type 0} (call : Lister A) (l : List ℕ) (e most size : ℕ
 abbrev pub Unlisted : {A : Type 0} → Lister A → List ℕ → ℕ → Type 0
 Unlisted {A} call l e = (ask : List A → Ask) → call ask (rest l (e + 1)) ≡ none
 
+-- the list behind the comma at index e has n elements, those of `first n`
+abbrev pub FrontAs : {A : Type 0} → Lister A → List ℕ → ℕ → ℕ → (ℕ → List A) → answer.Option ℕ → Type 0
+FrontAs call l e most first answer.None = Unlisted call l e
+FrontAs {A} call l e most first (answer.Some n) = (n ≤ most) × ((ask : List A → Ask) → call ask (rest l (e + 1)) ≡ some (Asks (On (ask (first n)))))
+
+pub record Front {A : Type 0} (call : Lister A) (l : List ℕ) (e most : ℕ) (first : ℕ → List A) (r : answer.Option ℕ) : Type 0 where
+  pub is : FrontAs call l e most first r
+
 -- ---- keys and items
 
 -- a line of 65,536 bytes has at most 21,845 keys or items: each has at least three bytes, its comma counted
@@ -79,6 +87,14 @@ number_bytes = 8
 -- the first n numbers of bytes
 abbrev pub numbers_of : ℕ → List ℕ → List ℕ
 numbers_of n b = recs number_bytes (number 256) n b
+
+-- the connections of `send`: the first n numbers of the bytes b
+abbrev pub NumbersFrontAs : List ℕ → ℕ → List ℕ → answer.Option ℕ → Type 0
+NumbersFrontAs l e b answer.None = send_line (rest l (e + 1)) ≡ none
+NumbersFrontAs l e b (answer.Some n) = (n ≤ most_numbers) × (send_line (rest l (e + 1)) ≡ some (Send (numbers_of n b)))
+
+pub record NumbersFront (l : List ℕ) (e : ℕ) (b : List ℕ) (r : answer.Option ℕ) : Type 0 where
+  pub is : NumbersFrontAs l e b r
 
 -- the connections of `send`, in n records
 pub record NumbersHeld (l : List ℕ) (e : ℕ) (b : List ℕ) : Type 0 where

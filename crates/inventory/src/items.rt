@@ -4,8 +4,9 @@ ghost use Rattle.ident.specs.Number.{Item};
 ghost use Rattle.regions.specs.Rows.{quad_number};
 ghost use Rattle.lent_lists.specs.Items.{item_bytes, item_in};
 ghost use Rattle.machine.specs.Fields.{item_of, taking};
+ghost use Rattle.reading.specs.Lists.{item_list_call};
 ghost use Rattle.reading.specs.Given.{longest_line};
-ghost use Rattle.inventory.specs.Given.{listed_room, ItemPut, ItemsGiven};
+ghost use Rattle.inventory.specs.Given.{most_listed, listed_room, items_of, Front, ItemPut, ItemsGiven};
 
 use lent_lists::ITEM;
 use lines::read::Named;
@@ -55,7 +56,15 @@ impl Element for ListedItem {
     }
 }
 
-// The list behind the comma at index e, the line's last fields: its bytes, of those lent.
+// The list behind the comma at index e, the line's last fields: how many items the front of the bytes holds.
+pub fn read_front(line: &[u8], e: usize, items: &mut [u8]) -> Option<usize>
+    requires { (length line.now ≤ longest_line) × (listed_room ≤ length items.old) }
+    ensures { Front item_list_call line.now e most_listed (λ n. items_of n items.new) result }
+{
+    list::read_front::<ListedItem>(line, e, ITEMS, items)
+}
+
+// The same list: its bytes, of those lent.
 pub fn read_list<'a>(line: &[u8], e: usize, items: &'a mut [u8]) -> Option<&'a [u8]>
     requires { (length line.now ≤ longest_line) × (listed_room ≤ length items.old) }
     ensures { ItemsGiven line.now e result }

@@ -3,10 +3,11 @@ ghost use Rattle.std.specs.Prelude.{◌+◌, ◌*◌, ◌≤◌, ◌≡◌, leng
 ghost use Rattle.ident.specs.Number.{Key};
 ghost use Rattle.lines.specs.Values.{named_key};
 ghost use Rattle.machine.specs.Call.{key_bytes};
-ghost use Rattle.lent_lists.specs.Lists.{key_in};
+ghost use Rattle.lent_lists.specs.Lists.{key_in, keys_in};
 ghost use Rattle.machine.specs.Fields.{key_of, taking};
+ghost use Rattle.reading.specs.Lists.{key_list_call};
 ghost use Rattle.reading.specs.Given.{longest_line, Stored};
-ghost use Rattle.inventory.specs.Given.{listed_room, KeysGiven};
+ghost use Rattle.inventory.specs.Given.{most_listed, listed_room, Front, KeysGiven};
 
 use lent_lists::KEY;
 use lines::read::Named;
@@ -54,7 +55,15 @@ impl Element for ListedKey {
     }
 }
 
-// The list behind the comma at index e, the line's last fields: its bytes, of those lent.
+// The list behind the comma at index e, the line's last fields: how many keys the front of the bytes holds.
+pub fn read_front(line: &[u8], e: usize, keys: &mut [u8]) -> Option<usize>
+    requires { (length line.now ≤ longest_line) × (listed_room ≤ length keys.old) }
+    ensures { Front key_list_call line.now e most_listed (λ n. keys_in n keys.new) result }
+{
+    list::read_front::<ListedKey>(line, e, KEYS, keys)
+}
+
+// The same list: its bytes, of those lent.
 pub fn read_list<'a>(line: &[u8], e: usize, keys: &'a mut [u8]) -> Option<&'a [u8]>
     requires { (length line.now ≤ longest_line) × (listed_room ≤ length keys.old) }
     ensures { KeysGiven line.now e result }

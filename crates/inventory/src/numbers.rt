@@ -3,7 +3,7 @@ ghost use Rattle.std.specs.Prelude.{ℕ, ◌≤◌, ◌≡◌, length};
 ghost use Rattle.words.specs.Words.{number};
 ghost use Rattle.machine.specs.Fields.{number_of, taking};
 ghost use Rattle.reading.specs.Given.{longest_line};
-ghost use Rattle.inventory.specs.Given.{number_room, number_bytes, NumbersGiven};
+ghost use Rattle.inventory.specs.Given.{number_room, number_bytes, NumbersFront, NumbersGiven};
 
 use reading::fields::number_at;
 use reading::list::{self, Element};
@@ -42,7 +42,15 @@ impl Element for ListedNumber {
     }
 }
 
-// The list behind the comma at index e, the line's last fields: its bytes, of those lent.
+// The list behind the comma at index e, the line's last fields: how many numbers the front of the bytes holds.
+pub fn read_front(line: &[u8], e: usize, numbers: &mut [u8]) -> Option<usize>
+    requires { (length line.now ≤ longest_line) × (number_room ≤ length numbers.old) }
+    ensures { NumbersFront line.now e numbers.new result }
+{
+    list::read_front::<ListedNumber>(line, e, NUMBERS, numbers)
+}
+
+// The same list: its bytes, of those lent.
 pub fn read_list<'a>(line: &[u8], e: usize, numbers: &'a mut [u8]) -> Option<&'a [u8]>
     requires { (length line.now ≤ longest_line) × (number_room ≤ length numbers.old) }
     ensures { NumbersGiven line.now e result }

@@ -1,9 +1,9 @@
 // A list of items with their priorities: 40 bytes an item, 8 a priority.
 ghost use Rattle.std.specs.Prelude.{◌≡◌, ◌≤◌, ◌<◌, length};
 ghost use Rattle.regions.specs.Rows.{quad_number};
-ghost use Rattle.reading.specs.Lists.{offer_then};
+ghost use Rattle.reading.specs.Lists.{offer_then, offers_call};
 ghost use Rattle.reading.specs.Given.{longest_line, ListRead};
-ghost use Rattle.inventory.specs.Given.{most_offers, item_room, priority_room, offers_of, OfferPut, OffersGiven};
+ghost use Rattle.inventory.specs.Given.{most_offers, item_room, priority_room, offers_of, Front, OfferPut, OffersGiven};
 
 use crate::items::put_item;
 use crate::numbers::NUMBER;
@@ -66,22 +66,10 @@ fn read_offers(
     Some(to)
 }
 
-// What an offers' list is read into: its items and its priorities.
-#[derive(Clone, Copy)]
-pub struct Offers<'a> {
-    pub items: &'a [u8],
-    pub priorities: &'a [u8],
-}
-
-// The list behind the comma at index e, the line's last fields: its bytes, of those lent.
-pub fn read_list<'a>(
-    line: &[u8],
-    e: usize,
-    items: &'a mut [u8],
-    priorities: &'a mut [u8],
-) -> Option<Offers<'a>>
+// The list behind the comma at index e, the line's last fields: how many offers the fronts of both hold.
+pub fn read_front(line: &[u8], e: usize, items: &mut [u8], priorities: &mut [u8]) -> Option<usize>
     requires { (length line.now ≤ longest_line) × (item_room ≤ length items.old) × (priority_room ≤ length priorities.old) }
-    ensures { OffersGiven line.now e result }
+    ensures { Front offers_call line.now e most_offers (λ n. offers_of n items.new priorities.new) result }
 {
     let count = number_at(line, e)?;
     if (OFFERS as u64) < count.value {
@@ -92,6 +80,27 @@ pub fn read_list<'a>(
     if end < line.len() {
         return None;
     }
+    Some(n)
+}
+
+// What an offers' list is read into: its items and its priorities.
+#[derive(Clone, Copy)]
+pub struct Offers<'a> {
+    pub items: &'a [u8],
+    pub priorities: &'a [u8],
+}
+
+// The same list: its bytes, of those lent.
+pub fn read_list<'a>(
+    line: &[u8],
+    e: usize,
+    items: &'a mut [u8],
+    priorities: &'a mut [u8],
+) -> Option<Offers<'a>>
+    requires { (length line.now ≤ longest_line) × (item_room ≤ length items.old) × (priority_room ≤ length priorities.old) }
+    ensures { OffersGiven line.now e result }
+{
+    let n = read_front(line, e, items, priorities)?;
     Some(Offers {
         items: &items[..n * ITEM],
         priorities: &priorities[..n * NUMBER],

@@ -16,7 +16,7 @@ use denote.Ref.{Bor}
 use Rattle.std.specs.Prelude.{Option, None, Some}
 use Rattle.reading.specs.Line.{Asks}
 use Rattle.reading.specs.Lists.{list_call}
-use Rattle.reading.specs.Given.{longest_line, most_hashes, Takes, WholeList, HashesGiven}
+use Rattle.reading.specs.Given.{longest_line, most_hashes, Takes, FrontList, WholeList, HashesFront, HashesGiven}
 use Rattle.reading.proofs.Bytes.{numeral_some}
 use Rattle.reading.proofs.Elements.{takes_field}
 use Rattle.reading.proofs.Stored.{all_counted}
@@ -24,6 +24,11 @@ use Rattle.reading.proofs.Stored.{all_counted}
 -- a comma and a digit
 pub hash-takes : Takes (taking hash_of) 2
 hash-takes = takes_field hash_of (λ f x g. omega (arith, numeral_some 16 top f x g))
+
+pub hashes-front : {l : List ℕ} {e : ℕ} {b : List ℕ} {r : Option ℕ} → length l ≤ longest_line → FrontList (taking hash_of) hash_bytes (number 256) l e most_hashes b r → HashesFront l e b r
+unfolding list_call
+hashes-front {r = None} m q = record { is = λ ask. q.is 2 hash-takes (omega (arith, m)) (λ hs. Asks (On (ask hs))) }
+hashes-front {r = Some n} m q = record { is = (q.is.0, λ ask. q.is.1 (λ hs. Asks (On (ask hs)))) }
 
 pub hashes-given : {l : List ℕ} {e : ℕ} {r : Option (Bor (List ℕ))} → length l ≤ longest_line → WholeList (taking hash_of) hash_bytes (number 256) l e most_hashes r → HashesGiven l e r
 unfolding list_call hashes_in

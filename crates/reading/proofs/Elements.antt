@@ -9,7 +9,7 @@ use lib.ListN.{length}
 use Rattle.machine.specs.Fields.{number_of, rest, taking, ending, elements_then}
 use Rattle.std.specs.Prelude as Rust
 use Rattle.reading.specs.Line.{Line, Reader, list_then}
-use Rattle.reading.specs.Given.{At, then_of, ElementRead, FieldRead, ElementsRead, ElementsAs, ListRead, Stored, bytes, Takes, NoList, Taken, TakenAs, ElementHeld}
+use Rattle.reading.specs.Given.{At, then_of, ElementRead, FieldRead, ElementsRead, ElementsAs, ListRead, Stored, bytes, Takes, NoList, Taken, TakenAs, ElementHeld, FrontAs, FrontList}
 use Rattle.reading.proofs.Taking.{field_not, field_is, ending_end, ending_more}
 use Rattle.reading.proofs.Bytes.{bytes_rest, no_value}
 
@@ -130,3 +130,8 @@ module _ {A : Type 0} (read : Reader A) {l : List ℕ} {e : ℕ} {o : Option (At
 
         pub list_is : length l ≤ to → (line : List A → Line) → list_then read line (rest l (e + 1)) ≡ some (line xs)
         list_is m line = to_end line ∙ ending_end l to _ m
+
+-- the list as it was read
+pub as_front : {A : Type 0} {read : Reader A} {size : ℕ} {f : List ℕ → A} {l : List ℕ} {e most : ℕ} {b : List ℕ} {r r' : Rust.Option ℕ} → FrontList read size f l e most b r → r ≡ r'
+    → FrontAs read size f l e most b r'
+as_front {read = read} {size} {f} {l} {e} {most} {b} q g = subst (FrontAs read size f l e most b) g q.is

@@ -159,6 +159,14 @@ NoList {A} read l e = (line : List A → Line) → list_then read line (rest l (
 abbrev pub IsList : {A : Type 0} → Reader A → List ℕ → ℕ → List A → Type 0
 IsList {A} read l e xs = (line : List A → Line) → list_then read line (rest l (e + 1)) ≡ some (line xs)
 
+-- the list behind the comma at index e: the first n records of the bytes b. Where it is refused, there is none, if the line is too short for more than `most`.
+abbrev pub FrontAs : {A : Type 0} → Reader A → ℕ → (List ℕ → A) → List ℕ → ℕ → ℕ → List ℕ → Option ℕ → Type 0
+FrontAs read size f l e most b None = (w : ℕ) → Takes read w → length l < w * (most + 1) → NoList read l e
+FrontAs read size f l e most b (Some n) = (n ≤ most) × IsList read l e (recs size f n b)
+
+pub record FrontList {A : Type 0} (read : Reader A) (size : ℕ) (f : List ℕ → A) (l : List ℕ) (e most : ℕ) (b : List ℕ) (r : Option ℕ) : Type 0 where
+  pub is : FrontAs read size f l e most b r
+
 -- the list behind the comma at index e: its bytes, n records of `size` bytes. Where it is refused, there is none, if the line is too short for more than `most`.
 abbrev pub WholeAs : {A : Type 0} → Reader A → ℕ → (List ℕ → A) → List ℕ → ℕ → ℕ → Option (Bor (List ℕ)) → Type 0
 WholeAs read size f l e most None = (w : ℕ) → Takes read w → length l < w * (most + 1) → NoList read l e
@@ -179,6 +187,14 @@ stored_bytes = 1048576
 -- the first n hashes of bytes
 abbrev pub hashes_of : ℕ → List ℕ → List ℕ
 hashes_of n b = recs hash_bytes (number 256) n b
+
+-- the list behind the comma at index e: the first n hashes of the bytes b
+abbrev pub HashesFrontAs : List ℕ → ℕ → List ℕ → Option ℕ → Type 0
+HashesFrontAs l e b None = (ask : List ℕ → Ask) → list_call ask (rest l (e + 1)) ≡ none
+HashesFrontAs l e b (Some n) = (n ≤ most_hashes) × ((ask : List ℕ → Ask) → list_call ask (rest l (e + 1)) ≡ some (Asks (On (ask (hashes_of n b)))))
+
+pub record HashesFront (l : List ℕ) (e : ℕ) (b : List ℕ) (r : Option ℕ) : Type 0 where
+  pub is : HashesFrontAs l e b r
 
 -- the list behind the comma at index e
 abbrev pub HashesAs : List ℕ → ℕ → Option (Bor (List ℕ)) → Type 0

@@ -3,7 +3,7 @@ ghost use Rattle.std.specs.Prelude.{ℕ, ◌≡◌, ◌≤◌, length};
 ghost use Rattle.ident.specs.Words.{hash_bytes};
 ghost use Rattle.words.specs.Words.{number};
 ghost use Rattle.machine.specs.Fields.{hash_of, taking};
-ghost use Rattle.reading.specs.Given.{longest_line, stored_bytes, HashesGiven};
+ghost use Rattle.reading.specs.Given.{longest_line, stored_bytes, HashesFront, HashesGiven};
 
 use crate::fields::hash_at;
 use crate::list::{self, Element};
@@ -43,7 +43,15 @@ impl Element for ListedHash {
     }
 }
 
-// The list behind the comma at index e, the line's last fields: its bytes, of those lent.
+// The list behind the comma at index e, the line's last fields: how many hashes the front of the bytes holds.
+pub fn read_front(line: &[u8], e: usize, hashes: &mut [u8]) -> Option<usize>
+    requires { (length line.now ≤ longest_line) × (stored_bytes ≤ length hashes.old) }
+    ensures { HashesFront line.now e hashes.new result }
+{
+    list::read_front::<ListedHash>(line, e, HASHES, hashes)
+}
+
+// The same list: its bytes, of those lent.
 pub fn read_list<'a>(line: &[u8], e: usize, hashes: &'a mut [u8]) -> Option<&'a [u8]>
     requires { (length line.now ≤ longest_line) × (stored_bytes ≤ length hashes.old) }
     ensures { HashesGiven line.now e result }

@@ -2,7 +2,7 @@
 ghost use Rattle.std.specs.Prelude.{ℕ, List, ◌+◌, ◌*◌, ◌≤◌, length};
 ghost use Rattle.words.specs.Words.{recs};
 ghost use Rattle.reading.specs.Line.{Reader};
-ghost use Rattle.reading.specs.Given.{Taken, ListRead, WholeList};
+ghost use Rattle.reading.specs.Given.{Taken, ListRead, FrontList, WholeList};
 
 use crate::fields::number_at;
 
@@ -39,15 +39,16 @@ pub fn read_all<E: Element>(line: &[u8], e: usize, n: usize, buffer: &mut [u8]) 
     Some(to)
 }
 
-// The list behind the comma at index e, the line's last fields: the bytes that hold it, of those lent.
-pub fn read_list<'a, E: Element>(
+// The list behind the comma at index e, the line's last fields: how many elements the front of the buffer holds. (For who goes on with the buffer: no contract of `read_list` can
+// say what it holds once the bytes that are given of it are let go.)
+pub fn read_front<E: Element>(
     line: &[u8],
     e: usize,
     most: usize,
-    buffer: &'a mut [u8],
-) -> Option<&'a [u8]>
+    buffer: &mut [u8],
+) -> Option<usize>
     requires { E.SIZE * most ≤ length buffer.old }
-    ensures { WholeList E.reads E.SIZE E.held line.now e most result }
+    ensures { FrontList E.reads E.SIZE E.held line.now e most buffer.new result }
 {
     let count = number_at(line, e)?;
     if (most as u64) < count.value {
@@ -58,5 +59,19 @@ pub fn read_list<'a, E: Element>(
     if end < line.len() {
         return None;
     }
+    Some(n)
+}
+
+// The same list: the bytes that hold it, of those lent.
+pub fn read_list<'a, E: Element>(
+    line: &[u8],
+    e: usize,
+    most: usize,
+    buffer: &'a mut [u8],
+) -> Option<&'a [u8]>
+    requires { E.SIZE * most ≤ length buffer.old }
+    ensures { WholeList E.reads E.SIZE E.held line.now e most result }
+{
+    let n = read_front::<E>(line, e, most, buffer)?;
     Some(&buffer[..n * E::SIZE])
 }
