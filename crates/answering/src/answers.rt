@@ -18,7 +18,7 @@ fn answer_open(store: &mut [u8], lists: &mut Lists, out: &mut [u8], l: u64, q: u
 {
     match public_requests::open(store, l, q) {
         Ok(_) => {
-            *lists = Lists::none();
+            lists.clear();
             put_bytes(out, 0, b"ok")
         }
         Err(cause) => refusal(out, u64::from(cause)),

@@ -45,6 +45,13 @@ impl EntryList {
         }
     }
 
+    // None is listed any more. (The count alone says so: what stands behind it is no part of the list.)
+    fn clear(&mut self)
+        ensures { self.new ≡ [] }
+    {
+        self.count = 0;
+    }
+
     pub fn bytes(&self) -> &[u8]
         ensures entries { entries_in result.now ≡ self.now }
         ensures few { length result.now ≤ entry_bytes * most_entries }
@@ -136,5 +143,33 @@ impl Lists {
         ensures { result ≡ no_lists }
     {
         Lists::of(EntryList::none(), EntryList::none(), EntryList::none())
+    }
+
+    // None of the three lists anything any more: as `none`, of which a new one would be 36 KB to write.
+    pub fn clear(&mut self)
+        ensures { self.new ≡ no_lists }
+    {
+        self.plan.clear();
+        self.taken.clear();
+        self.arranged.clear();
+    }
+
+    // The last plan that was carried out; what was taken; what was arranged. (So that who keeps the lists can read them: `EntryList::bytes`.)
+    pub fn plan(&self) -> &EntryList
+        ensures { result.now ≡ self.now.plan }
+    {
+        &self.plan
+    }
+
+    pub fn taken(&self) -> &EntryList
+        ensures { result.now ≡ self.now.taken }
+    {
+        &self.taken
+    }
+
+    pub fn arranged(&self) -> &EntryList
+        ensures { result.now ≡ self.now.arranged }
+    {
+        &self.arranged
     }
 }
