@@ -97,11 +97,40 @@ fn fail_in_turn(s: &mut [u8], n: Connection, items: &[u8], clock: u64, out: &mut
 // So few requests go one by one: two passes over the rows cost more.
 const FEW: usize = 4;
 
+// Of so many rows that would move, one item more is looked at beforehand: to look costs a small part of what it costs to fail by itself.
+const LOOKED: usize = 800;
+
 // Whether an item is none of package information.
 fn all_keyed(items: &[u8]) -> bool
     ensures { result ≡ all_keyed (items_in items.now) }
 {
     (0..lent_lists::items(items)).all(|i| !is_info(lent_lists::item_at(items, i)))
+}
+
+// Whether the connection n owns the request under the key of the item.
+fn is_owned(s: &[u8], n: u64, item: ident::Item) -> bool
+    requires { Kept s.now }
+{
+    match ident::key_of(item) {
+        Some(k) => package_stages::request_at(s, k).is_owned_by(n),
+        None => false,
+    }
+}
+
+// Whether n owns more than a few requests of the first `most` items. (Its answer decides on cost alone: no clause.)
+fn many_owned(s: &[u8], n: u64, items: &[u8], most: usize) -> bool
+    requires { Kept s.now }
+{
+    let mut few = FEW;
+    for i in 0..lent_lists::items(items).min(most) {
+        if is_owned(s, n, lent_lists::item_at(items, i)) {
+            if few == 0 {
+                return true;
+            }
+            few -= 1;
+        }
+    }
+    false
 }
 
 // Whether the requests of n that fail may go together: more than a few can be among the items, none of which is package information, whose
@@ -116,7 +145,8 @@ fn may_wait(s: &[u8], n: u64, items: &[u8]) -> bool
     if requests::figures(s, n).owned <= FEW as u64 {
         return false;
     }
-    all_keyed(items) && postponing::lapsing::timely(s)
+    let most = FEW + 1 + store::head::rows(s) / LOOKED;
+    many_owned(s, n, items, most) && all_keyed(items) && postponing::lapsing::timely(s)
 }
 
 // The items that the connection n does not have, up to their packages. Lists in `out` the keys of what failed, and answers how many
