@@ -16,7 +16,7 @@ use Rattle.apart.proofs.BareTable.{at_bare}
 
 -- ---- change
 
-keep-bare : (r : Request) (cs : List Candidate) (t : Table) → keep (bare_request r) cs (bare t) ≡ bare (keep r cs t)
+pub keep-bare : (r : Request) (cs : List Candidate) (t : Table) → keep (bare_request r) cs (bare t) ≡ bare (keep r cs t)
 unfolding keep bare
 keep-bare r [] t = refl
 keep-bare r (c ∷ cs) t = refl

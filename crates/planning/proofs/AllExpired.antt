@@ -82,13 +82,13 @@ same_long : (ps : List Place) (xs : List Slot) → place_hashes (plain xs) ≡ p
 same_long ps xs e = sym (length-map ps (λ (p : Place). p.hash)) ∙ ap length (sym e) ∙ length-map (plain xs) (λ (p : Place). p.hash) ∙ plain-long xs
 
 -- nothing is noted at rest
-rest_clear : (ps : List Place) (j : ℕ) (d : Slot) → j < length (resting ps) → Clear (get_or (resting ps) j d)
+pub rest_clear : (ps : List Place) (j : ℕ) (d : Slot) → j < length (resting ps) → Clear (get_or (resting ps) j d)
 rest_clear [] j d h = absurd (omega arith)
 rest_clear (p ∷ ps) zero d h = record { low_bits = refl; high_bits = refl }
 rest_clear (p ∷ ps) (suc j) d h = rest_clear ps j d (omega arith)
 
 -- without packages no request has a place
-unplaced_bare : (t : Table) → Unplaced (bare t)
+pub unplaced_bare : (t : Table) → Unplaced (bare t)
 unfolding bare
 unplaced_bare [] = tt
 unplaced_bare (r ∷ t) = (refl, unplaced_bare t)

@@ -3,7 +3,10 @@ pub mod BareDue
 pub mod StillDue
 pub mod RowsDue
 pub mod NextDue
+pub mod AtOnce
 pub mod Notings
 pub mod AllExpired
+pub mod Silence
+pub mod Readying
 pub mod Whole
 pub mod Planned

@@ -1,3 +1,4 @@
 pub mod Expiring
+pub mod Silent
 pub mod Noting
 pub mod Replying

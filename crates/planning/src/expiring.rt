@@ -2,8 +2,11 @@
 ghost use Rattle.std.specs.Prelude.{◌≡◌, ◌+◌, ◌≤◌};
 ghost use Rattle.ident.specs.Words.{key_num};
 ghost use Rattle.store.specs.Shown.{rows_in, Kept};
+ghost use Rattle.requests.specs.Changes.{Makes};
+ghost use Rattle.postponing.specs.Pending.{Unplaced};
 ghost use Rattle.apart.specs.Apart.{Rested};
 ghost use Rattle.planning.specs.Expiring.{is_still, SeekDue, behind, NextDue, ExpiresAll};
+ghost use Rattle.planning.specs.Silent.{silenced, MadeReady};
 
 use apart::SLOT;
 use apart::delayed::Delayed;
@@ -51,12 +54,33 @@ fn next_due(s: &[u8], low: u64, clock: u64, last: Option<ident::Key>) -> Option<
     })
 }
 
+// All candidates of the hash of an owner that is due, under both kinds, get ready at `clock`.
+fn ready_due(s: &mut [u8], clock: u64)
+    requires { Kept s.old }
+    ensures { MadeReady s.old s.new clock }
+{
+    let mut done = None;
+    // no iterator: each turn searches a store that the one before it changed
+    while let Some(due) = next_due(s, 0, clock, done) {
+        requests::ready_all(s, due.key, clock);
+        requests::ready_all(s, ident::same_hash_other_kind(due.key), clock);
+        done = Some(due.key);
+    }
+}
+
+// Every owner whose time is over fails, where no request has a place: then no parent is announced, and the rows move once, however many owners they are and whatever
+// deadlines they have.
+fn expire_silent(s: &mut [u8], clock: u64)
+    requires { Kept s.old }
+    ensures { Makes s.old s.new Unplaced (silenced clock) }
+{
+    ready_due(s, clock);
+    postponing::silent::drop_due(s, clock);
+}
+
 // Every owner whose time is over fails, in key order, and its parents are announced for it. The rows stay until many have failed and many parents wait: then those go
-// and these come in together. Where nobody can be evicted any more no later parent looks for a victim. The c places of the store are set apart; the
-// parents kept are noted at their place. Answers how many places at most have notes. (The store, m, the first place and the count travel together as in crates/apart, and are
-// no struct for its reason: apart::slots. By itself: inlined, the rows that wait would stand on the stack beside what the test of the bytes goes by.)
-#[inline(never)]
-pub fn expire(s: &mut [u8], m: usize, first: &mut [u8; SLOT], c: usize, clock: u64) -> usize
+// and these come in together. Where nobody can be evicted any more no later parent looks for a victim. Answers how many places at most have notes.
+fn expire_each(s: &mut [u8], m: usize, first: &mut [u8; SLOT], c: usize, clock: u64) -> usize
     requires { Rested s.old first.old m c }
     ensures { ExpiresAll s.old s.new first.old first.new m c clock result }
 {
@@ -86,4 +110,23 @@ pub fn expire(s: &mut [u8], m: usize, first: &mut [u8; SLOT], c: usize, clock: u
     }
     delayed.end(&mut s[..m]);
     known.noted
+}
+
+// Every owner whose time is over fails, in key order, and its parents are announced for it. The c places of the store are set apart; the parents kept are noted at their place.
+// Answers how many places at most have notes. Whether anybody's time is over is seen before the rows that wait are made room for, and all are read for the deadline 0. (The
+// store, m, the first place and the count travel together as in crates/apart, and are no struct for its reason: apart::slots. By itself: inlined, the rows that wait would
+// stand on the stack beside what the test of the bytes goes by.)
+#[inline(never)]
+pub fn expire(s: &mut [u8], m: usize, first: &mut [u8; SLOT], c: usize, clock: u64) -> usize
+    requires { Rested s.old first.old m c }
+    ensures { ExpiresAll s.old s.new first.old first.new m c clock result }
+{
+    if next_due(&s[..m], 0, clock, None).is_none() {
+        return 0;
+    }
+    if c == 0 {
+        expire_silent(&mut s[..m], clock);
+        return 0;
+    }
+    expire_each(s, m, first, c, clock)
 }

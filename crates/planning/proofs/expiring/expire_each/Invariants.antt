@@ -1,4 +1,4 @@
--- `planning::expiring::expire` meets its contract.
+-- `planning::expiring::expire_each` meets its contract.
 use Prim.Native.Nat.{◌+◌, ◌-◌, ◌≤◌}
 use mathlib.Core.Path.{◌≡◌}
 use lib.ListN.{length}
@@ -6,7 +6,7 @@ use Rattle.ident.specs.Number.{top}
 use Rattle.apart.specs.Delayed.{delay_of}
 use Rattle.planning.proofs.AllExpired.{AllOnTheWay}
 use Rattle.planning.specs.Expiring.{behind}
-use Rattle.planning.proofs.expiring.expire.Given as goal
+use Rattle.planning.proofs.expiring.expire_each.Given as goal
 
 abbrev pub invariant-loop-due : goal.invariant-loop-due
 invariant-loop-due l = (length l.s ≡ length l.initial.s) × (behind l.last ≤ top + top) × (l.known.noted ≤ l.c)
