@@ -97,8 +97,10 @@ fn fail_in_turn(s: &mut [u8], n: Connection, items: &[u8], clock: u64, out: &mut
 // So few requests go one by one: two passes over the rows cost more.
 const FEW: usize = 4;
 
-// Of so many rows that would move, one item more is looked at beforehand: to look costs a small part of what it costs to fail by itself.
-const LOOKED: usize = 800;
+// Items are looked at beforehand for a small part of what it costs to fail one by one: one for so many rows that would move, and one for so many items.
+const ROWS: usize = 800;
+
+const ITEMS: usize = 8;
 
 // Whether an item is none of package information.
 fn all_keyed(items: &[u8]) -> bool
@@ -135,6 +137,7 @@ fn many_owned(s: &[u8], n: u64, items: &[u8], most: usize) -> bool
 
 // Whether the requests of n that fail may go together: more than a few can be among the items, none of which is package information, whose
 // parents come in at once; and no owner has the deadline of those that wait.
+#[tactic(auto, using(announcing::proofs::Lent::kept_long))]
 fn may_wait(s: &[u8], n: u64, items: &[u8]) -> bool
     requires { Kept s.now }
     ensures { result ≡ true → (all_keyed (items_in items.now) ≡ true) × Tells s.now Timely }
@@ -145,7 +148,7 @@ fn may_wait(s: &[u8], n: u64, items: &[u8]) -> bool
     if requests::figures(s, n).owned <= FEW as u64 {
         return false;
     }
-    let most = FEW + 1 + store::head::rows(s) / LOOKED;
+    let most = FEW + 1 + store::head::rows(s) / ROWS + lent_lists::items(items) / ITEMS;
     many_owned(s, n, items, most) && all_keyed(items) && postponing::lapsing::timely(s)
 }
 
