@@ -149,7 +149,10 @@ fn may_wait(s: &[u8], n: u64, items: &[u8]) -> bool
         return false;
     }
     let most = FEW + 1 + store::head::rows(s) / ROWS + lent_lists::items(items) / ITEMS;
-    many_owned(s, n, items, most) && all_keyed(items) && postponing::lapsing::timely(s)
+    if !many_owned(s, n, items, most) {
+        return false;
+    }
+    all_keyed(items) && postponing::lapsing::timely(s)
 }
 
 // The items that the connection n does not have, up to their packages. Lists in `out` the keys of what failed, and answers how many
