@@ -8,4 +8,4 @@ pub returns-in-Err : goal.returns-in-Err
 returns-in-Err c = step_refused c.args.l c.args.q c.«open».ensures refl (ap reply_of c.in-Err.is) (rw (← c.from.ensures) c.refusal.ensures)
 
 pub returns-in-Ok : goal.returns-in-Ok
-returns-in-Ok c = step_opened c.args.l c.args.q c.«open».ensures refl c.none.ensures (ap reply_of c.in-Ok.is) c.put_bytes.ensures
+returns-in-Ok c = step_opened c.args.l c.args.q c.«open».ensures refl c.clear.ensures (ap reply_of c.in-Ok.is) c.put_bytes.ensures
