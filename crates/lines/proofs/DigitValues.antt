@@ -5,7 +5,7 @@ use mathlib.Core.Bool.{Bool, true, false, ◌&&◌, ◌||◌}
 use native.Mathlib.Omega.{arith}
 use lib.Dec.{leb, ltb}
 use borrow.Author.Tests.{leb-true, lt-ltb, ltb-true, ltb-false}
-use Rattle.std.specs.Prelude.{if◌then◌else◌}
+use Rattle.std.specs.Prelude.{if◌then◌else◌, Option, None, Some, MatchOption, IfSome, unwrap_or}
 use Rattle.machine.specs.Fields.{digit_of}
 use Rattle.machine.proofs.Tests.{and_left, and_right}
 
@@ -56,3 +56,27 @@ module _ (c : ℕ) where
           let m = leb-true c 102 (and_right (leb 97 c) (leb c 102) u) in
           omega arith
       by false false t u h = absurd (omega arith)
+
+  -- of decimal digits none is above 9
+  pub digit-above : 57 < c → 10 ≤ digit_of c
+  unfolding digit_of
+  digit-above h = by decimal letter refl refl
+    where
+      by : (p q : Bool) → decimal ≡ p → letter ≡ q → 10 ≤ by_tests p q
+      by true q t u = let m = leb-true c 57 (and_right (leb 48 c) (leb c 57) t) in absurd (omega arith)
+      by false true t u = let m = leb-true 97 c (and_left (leb 97 c) (leb c 102) u) in omega arith
+      by false false t u = omega arith
+
+  -- and up to 9 no letter is
+  digit-upto : c ≤ 57 → digit_of c < 16 → digit_of c < 10
+  unfolding digit_of
+  digit-upto h = by decimal letter refl refl
+    where
+      by : (p q : Bool) → decimal ≡ p → letter ≡ q → by_tests p q < 16 → by_tests p q < 10
+      by true q t u l = omega arith
+      by false true t u l = let m = leb-true 97 c (and_left (leb 97 c) (leb c 102) u) in absurd (omega arith)
+      by false false t u l = absurd (omega arith)
+
+  pub decimal-digit : c ≤ 57 → (r : Option ℕ) → unwrap_or r 16 ≡ digit_of c → IfSome r (λ d. d < 16) → MatchOption r (10 ≤ digit_of c) (λ d. (d ≡ digit_of c) × (d < 10))
+  decimal-digit h None e l = omega arith
+  decimal-digit h (Some d) e l = (e, omega (arith, e, l, digit-upto h (omega (arith, e, l))))

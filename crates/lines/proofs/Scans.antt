@@ -53,8 +53,8 @@ clash e = cc
 
 module _ (b m : ℕ) {f r : List ℕ} where
   module _ {c : ℕ} (g : f ≡ c ∷ r) where
-    pub first_none : b ≤ 16 → 16 ≡ digit_of c → none ≡ numeral_of b m f
-    first_none h e = rw g (sym (numeral_of_not b m c r (omega arith)))
+    pub first_none : b ≤ digit_of c → none ≡ numeral_of b m f
+    first_none h = rw g (sym (numeral_of_not b m c r h))
 
     module _ (l : b ≤ m) {z d : ℕ} (e : d ≡ digit_of c) (o : z ≡ 0) where
       below_limit : d < b → (ltb d b && ltb (z * b + d) m) ≡ true
@@ -85,8 +85,8 @@ module _ (b m : ℕ) (f r : List ℕ) (a i : ℕ) where
       pub zero_first : a ≡ 0 → none ≡ numeral_of b m f
       zero_first z = stops (rw (le-ltb 0 a (omega arith)))
 
-      pub next_none : b ≤ 16 → 16 ≡ digit_of (get_or r i 0) → none ≡ numeral_of b m f
-      next_none l e = stops (rw (le-ltb (digit_of (get_or r i 0)) b (omega arith)) (and-false (ltb 0 a)))
+      pub next_none : b ≤ digit_of (get_or r i 0) → none ≡ numeral_of b m f
+      next_none l = stops (rw (le-ltb (digit_of (get_or r i 0)) b l) (and-false (ltb 0 a)))
         where
           and-false : (p : Bool) → (p && false) ≡ false
           and-false true = refl

@@ -1,9 +1,9 @@
 // Fields of a line, each a part of its bytes, as values.
-ghost use Rattle.std.specs.Prelude.{ℕ, ◌≡◌, ◌+◌, ◌^◌, ◌≤◌, length, drop};
+ghost use Rattle.std.specs.Prelude.{ℕ, ◌≡◌, ◌+◌, ◌^◌, ◌<◌, ◌≤◌, length, drop, MatchOption};
 ghost use lib.Dec.{lit≤};
 ghost use Rattle.regions.specs.Rows.{quad_number};
 ghost use Rattle.ident.specs.Words.{key_num};
-ghost use Rattle.machine.specs.Fields.{numeral_of, number_of, type_of, hash_of, bool_of, kind_of, key_of, letter_kind, other_kind, other_of, item_of, same_text, before};
+ghost use Rattle.machine.specs.Fields.{digit_of, numeral_of, number_of, type_of, hash_of, bool_of, kind_of, key_of, letter_kind, other_kind, other_of, item_of, same_text, before};
 ghost use Rattle.machine.specs.Claim.{elem};
 ghost use Rattle.machine.specs.Text.{hash_digits};
 ghost use Rattle.lines.specs.Hexadecimal.{hex_of};
@@ -95,18 +95,29 @@ impl Numeral for u32 {
     }
 }
 
+// The digit of a byte that is a decimal one.
+// (First by the byte, so that one comparison is left of `value`'s, which are for letters too.)
+fn decimal(c: u8) -> Option<u64>
+    ensures { MatchOption result (10 ≤ digit_of c) (λ d. (d ≡ digit_of c) × (d < 10)) }
+{
+    if b'9' < c {
+        return None;
+    }
+    value(c)
+}
+
 // What the decimal digits of f write; no digit follows a leading zero.
 fn digits_of<N: Numeral>(f: &[u8]) -> Option<N>
     ensures { value_in N.number result ≡ numeral_of 10 N.limit f.now }
 {
     let (&first, rest) = f.split_first()?;
-    let first = value(first)?;
+    let first = decimal(first)?;
     let mut n = N::zero().with_digit(first)?;
     for &c in rest {
         if first == 0 {
             return None;
         }
-        n = n.with_digit(value(c)?)?;
+        n = n.with_digit(decimal(c)?)?;
     }
     Some(n)
 }
@@ -228,12 +239,12 @@ fn other_kind(f: &[u8]) -> Option<ident::ItemKind>
 }
 
 // An other item, of which f is what stands behind the letter.
-// (By `find`, whose clause is of what stands before the colon, as the definition's: `position` would tell an index.)
+// (By `seek`, whose clause is of what stands before the colon, as the definition's: `position` would tell an index.)
 #[tactic(auto, unfolding(machine::specs::Fields::behind))]
 fn other_item(f: &[u8]) -> Option<Named<ident::ItemKind>>
     ensures { item_in result ≡ other_of f.now }
 {
-    let at = find(f, 0, b':');
+    let at = seek(f, 0, b':');
     if at == f.len() {
         return None;
     }
@@ -269,8 +280,8 @@ fn stands(s: &[u8], x: u8) -> bool
     found
 }
 
-// The first index at or after from where s has x, or its length: byte by byte.
-fn seek(s: &[u8], from: usize, x: u8) -> usize
+// The first index at or after from where s has x, or its length: byte by byte, for an x that is near.
+pub fn seek(s: &[u8], from: usize, x: u8) -> usize
     requires { from ≤ length s.now }
     ensures { result ≡ from + length (before x (drop from s.now)) }
 {

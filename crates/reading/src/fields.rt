@@ -1,10 +1,10 @@
 // A line's fields one after the other, each found behind the comma that ends the one before it.
-ghost use Rattle.std.specs.Prelude.{◌≡◌, ◌<◌, ◌≤◌, length, MatchOption};
+ghost use Rattle.std.specs.Prelude.{◌≡◌, ◌+◌, ◌<◌, ◌≤◌, length, drop, MatchOption};
 ghost use Rattle.std.specs.Fn.{FnOnceReturnsAt};
-ghost use Rattle.machine.specs.Fields.{number_of, bool_of, hash_of, key_of, item_of};
+ghost use Rattle.machine.specs.Fields.{before, number_of, bool_of, hash_of, key_of, item_of};
 ghost use Rattle.reading.specs.Given.{FieldParsed, FieldRead, number_at, bool_at, hash_at, key_at, item_at};
 
-use lines::read::{Named, field_end};
+use lines::read::{Named, field_end, seek};
 
 // What a part of a line says, and the index where that part ends.
 #[derive(Clone, Copy)]
@@ -39,7 +39,22 @@ impl<T> Parsed<T> {
     }
 }
 
-// The field behind the comma at index e, as `parse` reads it; a line that ends there has none.
+// The field between the comma at index e and the index where it ends, as `parse` reads it.
+fn field_to<T, F: FnOnce(&[u8]) -> Option<T>>(
+    line: &[u8],
+    e: usize,
+    end: usize,
+    parse: F,
+) -> Option<Parsed<T>>
+    requires callable { F.IsAlwaysCallable parse }
+    requires ends { (e < length line.now) × (end ≡ e + 1 + length (before 44 (drop (e + 1) line.now))) }
+    ensures { FieldParsed (FnOnceReturnsAt F.FnOnce parse) line.now e result }
+{
+    let value = parse(&line[e + 1..end])?;
+    Some(Parsed { value, end })
+}
+
+// The field behind the comma at index e; a line that ends there has none.
 fn field_at<T, F: FnOnce(&[u8]) -> Option<T>>(line: &[u8], e: usize, parse: F) -> Option<Parsed<T>>
     requires { F.IsAlwaysCallable parse }
     ensures { FieldParsed (FnOnceReturnsAt F.FnOnce parse) line.now e result }
@@ -47,17 +62,21 @@ fn field_at<T, F: FnOnce(&[u8]) -> Option<T>>(line: &[u8], e: usize, parse: F) -
     if line.len() <= e {
         return None;
     }
-    let from = e + 1;
-    let end = field_end(line, from);
-    let value = parse(&line[from..end])?;
-    Some(Parsed { value, end })
+    let end = field_end(line, e + 1);
+    field_to(line, e, end, parse)
 }
 
 // (A function for each value, here and below: its contract names the value, and callers name no parser.)
+// (A number's end is near, and is sought byte by byte. Inlined, since its answer would go through memory: lists have thousands of numbers.)
+#[inline(always)]
 pub fn number_at(line: &[u8], e: usize) -> Option<Parsed<u64>>
     ensures { FieldRead number_of line.now e (number_at result) }
 {
-    field_at(line, e, lines::read::number)
+    if line.len() <= e {
+        return None;
+    }
+    let end = seek(line, e + 1, b',');
+    field_to(line, e, end, lines::read::number)
 }
 
 pub fn bool_at(line: &[u8], e: usize) -> Option<Parsed<bool>>
