@@ -1,14 +1,22 @@
 -- Standard input a byte at a time: what the program keeps is what was read.
-use Prim.Native.Nat.{ℕ, suc, ◌+◌, ◌<◌, ◌≤◌}
+use Prim.Native.Nat.{ℕ, suc, ◌+◌, ◌-◌, ◌<◌, ◌≤◌}
 use mathlib.Core.Path.{◌≡◌, refl, sym, ap, subst, ◌∙◌}
 use mathlib.Core.Bool.{true, false}
 use mathlib.Core.List.{List, [], ◌∷◌, ◌++◌, append_assoc, append-nil}
+use mathlib.Core.Logic.{inl, inr}
 use mathlib.Core.Option.{Option, none, some}
 use native.Mathlib.Omega.{arith}
-use lib.ListN.{length, take, drop, set, get_or, length-append}
-use lib.Seq.{take_all, take_at, take-append-le, take-suc, take-suc-set}
-use borrow.Author.Tests.{lt-ltb, le-ltb, eq-eqb, ne_eqb, ltb-true, ltb-false}
+use lib.Dec.{eqb}
+use lib.ListN.{length, take, drop, set, length-append, length-drop}
+use lib.Seq.{take_all, take_at, take-append-le, take-append-add, take-add, drop-drop, drop-append_seam, take-suc-set}
+use borrow.Author.Tests.{lt-ltb, le-ltb, eqb-true, eqb-false, ltb-true, ltb-false}
+use borrow.Rule.Slice.PartMut.{put_mid}
+use Rattle.std.proofs.lemmas.List.{length-take-le}
+use Rattle.std.proofs.lemmas.Slice.{take-put_mid}
 use Rattle.words.specs.Words.{splice}
+use Rattle.machine.specs.Fields.{before, behind}
+use Rattle.machine.proofs.Tests.{test}
+use Rattle.machine.proofs.Parting.{take-before, before-nil, before-skip, before-met, parted}
 use Rattle.lines.specs.Text.{Wrote}
 use Rattle.events.specs.declared.so_far.Length.{Length}
 use Rattle.events.specs.declared.so_far.SoFar.{SoFar}
@@ -79,57 +87,47 @@ module _ {k : SoFar} {buffer store : List ℕ} {lists : KeptLists} {p : Reading}
       let x = subst (λ (b : List ℕ). Replied (asks_for p.line) lists lists' b store' a.text) g.store_is w in
       record { text = a.text; replied = subst (λ (z : KeptLists). Replied (asks_for p.line) z lists' p.store store' a.text) g.lists-are x; said_is = refl }
 
-  -- ---- a byte
+  -- ---- a line feed
 
-  pub took_feed : {x : ℕ} {none : Length} {buffer' : List ℕ} {lists' : KeptLists} {store' out : List ℕ} {r : ℕ} → x ≡ line_feed → none.bytes ≡ 0
-      → Said (asked_in k buffer) lists lists' store store' out r → Took p x (Whole none) buffer' store' lists' out
-  took_feed {x} {none} {buffer'} {lists'} {store'} {out} {r} e z a =
+  pub took_feed : {none : Length} {buffer' : List ℕ} {lists' : KeptLists} {store' out : List ℕ} {r : ℕ} → none.bytes ≡ 0 → Said (asked_in k buffer) lists lists' store store' out r
+      → Took p line_feed (Whole none) buffer' store' lists' out
+  took_feed {none} {buffer'} {lists'} {store'} {out} {r} z a =
       record {
         next = record { line = []; store = store'; kept = lists' };
         said = a.text ++ (line_feed ∷ []);
-        reads = record { is = rw (eq-eqb x line_feed e) (refl, answered-line a) };
+        reads = record { is = (refl, answered-line a) };
         held = record { line_is = (z, omega arith, rw z refl); store_is = refl; lists-are = refl };
         shown = rw (← a.count) a.shown;
       }
 
-  -- any other byte, the buffer holding k' of the longer line
-  took_other : {x : ℕ} {k' : SoFar} {buffer' out : List ℕ} → (x ≡ line_feed → ⊥) → HeldLine k' buffer' (p.line ++ (x ∷ [])) → Took p x k' buffer' store lists out
-  took_other {x} other h = record {
-    next = record { line = p.line ++ (x ∷ []); store = p.store; kept = p.kept };
-    said = [];
-    reads = record { is = rw (ne_eqb x line_feed other) (refl, refl, refl, refl) };
-    held = record { line_is = h; store_is = g.store_is; lists-are = g.lists-are };
-    shown = refl;
-  }
-
-one_longer : (l : List ℕ) (x : ℕ) → length (l ++ (x ∷ [])) ≡ suc (length l)
-one_longer l x = length-append l (x ∷ []) ∙ omega arith
+-- ---- more bytes of a line
 
 -- the line is too long already
-pub took_longer : (k : SoFar) {x : ℕ} {buffer store : List ℕ} {lists : KeptLists} {out : List ℕ} {p : Reading} → ((n : Length) → k ≡ Whole n → ⊥) → Held k buffer store lists p → (x ≡ line_feed → ⊥)
-    → Took p x k buffer store lists out
-took_longer (Whole n) short g other = absurd (short n refl)
-took_longer TooLong {x} {p = p} short g other =
-    took_other g other (omega (arith, g.line_is.0, one_longer p.line x), g.line_is.1 ∙ sym (take-append-le line_room p.line (x ∷ []) (omega (arith, g.line_is.0))))
+pub held-longer : (k : SoFar) (buffer line ys : List ℕ) → ((n : Length) → k ≡ Whole n → ⊥) → HeldLine k buffer line → HeldLine k buffer (line ++ ys)
+held-longer (Whole n) buffer line ys short h = absurd (short n refl)
+held-longer TooLong buffer line ys short h = (omega (arith, h.0, length-append line ys), h.1 ∙ sym (take-append-le line_room line ys (omega (arith, h.0))))
 
-module _ {n : Length} {x : ℕ} {buffer store : List ℕ} {lists : KeptLists} {p : Reading} (g : Held (Whole n) buffer store lists p) (other : x ≡ line_feed → ⊥) where
-  -- the buffer is full
-  pub took_over : {out : List ℕ} → n.bytes ≡ line_room → Took p x TooLong buffer store lists out
-  took_over e =
-      let l : length p.line ≡ line_room = omega (arith, g.line_is.0, e) in
-      took_other g other (
-        omega (arith, l, one_longer p.line x),
-        subst (λ (m : ℕ). take m buffer ≡ p.line) e g.line_is.2 ∙ sym (take_all line_room p.line (omega (arith, l))) ∙ sym (take-append-le line_room p.line (x ∷ []) (omega (arith, l))),
-      )
+module _ (b : ℕ) (buffer line ys : List ℕ) (h : (b ≡ length line) × (length line ≤ line_room) × (take b buffer ≡ line)) (room : line_room ≤ length buffer) (i : ℕ) {k : ℕ} {x : List ℕ}
+    (e : x ≡ take k ys) (l : k ≤ length ys) where
+  put-behind : (m : ℕ) → m ≡ length line + k → take m (put_mid b i buffer x) ≡ line ++ take k ys
+  put-behind m g =
+      let z = ap length e ∙ length-take-le k ys l in
+      take-put_mid b i buffer x m (omega (arith, g, z, h.0)) (omega (arith, h.0, h.1, room)) ∙ rw (h.2, e) refl
 
-  -- the buffer takes it
-  pub took_byte : {more : Length} {out : List ℕ} → more.bytes ≡ n.bytes + 1 → n.bytes < line_room → line_room ≤ length buffer → Took p x (Whole more) (set buffer n.bytes x) store lists out
-  took_byte m h room =
-      let e : n.bytes + 1 ≡ suc n.bytes = omega arith in
-      took_other g other (
-        omega (arith, m, g.line_is.0, one_longer p.line x),
-        omega (arith, g.line_is.0, one_longer p.line x),
-        rw (m, e) (take-suc-set buffer n.bytes x (omega arith) ∙ ap (λ (t : List ℕ). t ++ (x ∷ [])) g.line_is.2),
+  -- the buffer is full before the last of them
+  pub held-over : k < length ys → b + k ≡ line_room → HeldLine TooLong (put_mid b i buffer x) (line ++ ys)
+  held-over o f =
+      let g : line_room ≡ length line + k = omega (arith, h.0, f) in
+      (omega (arith, g, o, length-append line ys), put-behind line_room g ∙ subst (λ (m : ℕ). line ++ take k ys ≡ take m (line ++ ys)) (sym g) (sym (take-append-add line ys k)))
+
+  -- the buffer takes them
+  pub held-on : (m : ℕ) → m ≡ b + k → b + k ≤ line_room → length ys ≤ k
+      → (m ≡ length (line ++ ys)) × (length (line ++ ys) ≤ line_room) × (take m (put_mid b i buffer x) ≡ line ++ ys)
+  held-on m q f o =
+      let g : m ≡ length line + k = omega (arith, h.0, q) in (
+        omega (arith, g, o, l, length-append line ys),
+        omega (arith, g, q, f, o, l, length-append line ys),
+        put-behind m g ∙ ap (λ (t : List ℕ). line ++ t) (take_all k ys o),
       )
 
 -- ---- the end
@@ -180,6 +178,49 @@ took_one {p} {xs} {ys} {x = x} t u e = record {
   held = u.held;
 }
 
+-- the bytes before a line feed
+run : (p : Reading) (xs s : List ℕ) (m : Reading) {said : List ℕ} → ReadsAll p xs m said
+    → ReadsAll p (xs ++ before line_feed s) (record { line = m.line ++ before line_feed s; store = m.store; kept = m.kept }) said
+run p xs [] m {said} r = rw (before-nil line_feed, append-nil xs, append-nil m.line) r
+run p xs (c ∷ s) m {said} r = elim (test (eqb c line_feed)) [
+  | inl t ↦ let e = eqb-true c line_feed t in rw (e, before-met line_feed s, append-nil xs, append-nil m.line) r
+  | inr t ↦
+      let l : Reading = record { line = m.line ++ (c ∷ []); store = m.store; kept = m.kept } in
+      let b : List ℕ = before line_feed s in
+      let w = further p xs m said c l [] r (record { is = rw t (refl, refl, refl, refl) }) in
+      let u = run p (xs ++ (c ∷ [])) s l (subst (λ (x : List ℕ). ReadsAll p (xs ++ (c ∷ [])) l x) (append-nil said) w) in
+      let v = subst (λ (x : List ℕ). ReadsAll p x (record { line = l.line ++ b; store = m.store; kept = m.kept }) said) (append_assoc xs (c ∷ []) b) u in
+      let z = subst (λ (x : List ℕ). ReadsAll p (xs ++ (c ∷ b)) (record { line = x; store = m.store; kept = m.kept }) said) (append_assoc m.line (c ∷ []) b) v in
+      subst (λ (x : List ℕ). ReadsAll p (xs ++ x) (record { line = m.line ++ x; store = m.store; kept = m.kept }) said) (sym (before-skip line_feed c s (eqb-false c line_feed t))) z
+]
+
+module _ (xs : List ℕ) (at : ℕ) {end : ℕ} (e : end ≡ at + length (before line_feed (drop at xs))) where
+  front : take end xs ≡ take at xs ++ before line_feed (drop at xs)
+  front = rw e (take-add at (length (before line_feed (drop at xs))) xs ∙ ap (λ (l : List ℕ). take at xs ++ l) (take-before line_feed (drop at xs)))
+
+  -- they are the line's
+  pub took_run : {p : Reading} {k : SoFar} {buffer store : List ℕ} {lists : KeptLists} {k' : SoFar} {buffer' : List ℕ} → (t : TookAll p (take at xs) k buffer store lists)
+      → ((line : List ℕ) → HeldLine k buffer line → HeldLine k' buffer' (line ++ take (end - at) (drop at xs))) → TookAll p (take end xs) k' buffer' store lists
+  took_run {p} {k' = k'} {buffer' = buffer'} t h =
+      let b : List ℕ = before line_feed (drop at xs) in
+      let n : end - at ≡ length b = omega (arith, e) in
+      let g : take (end - at) (drop at xs) ≡ b = rw n (take-before line_feed (drop at xs)) in
+      record {
+        next = record { line = t.next.line ++ b; store = t.next.store; kept = t.next.kept };
+        said = t.said;
+        reads = subst (λ (l : List ℕ). ReadsAll p l (record { line = t.next.line ++ b; store = t.next.store; kept = t.next.kept }) t.said) (sym front) (run p (take at xs) (drop at xs) t.next t.reads);
+        held = record { line_is = subst (λ (l : List ℕ). HeldLine k' buffer' (t.next.line ++ l)) g (h t.next.line t.held.line_is); store_is = t.held.store_is; lists-are = t.held.lists-are };
+      }
+
+  -- and a line feed stands behind them
+  pub fed_front : at ≤ length xs → end < length xs → take (end + 1) xs ≡ take end xs ++ (line_feed ∷ [])
+  fed_front a h =
+      let s : List ℕ = drop at xs in
+      let b : List ℕ = before line_feed s in
+      let q : s ≡ b ++ (line_feed ∷ behind line_feed s) = parted line_feed s (omega (arith, h, a, e, length-drop at xs)) in
+      let d : drop end xs ≡ line_feed ∷ behind line_feed s = rw (e, ← drop-drop) (ap (λ (l : List ℕ). drop (length b) l) q ∙ drop-append_seam b (line_feed ∷ behind line_feed s)) in
+      take-add end 1 xs ∙ ap (λ (l : List ℕ). take end xs ++ take 1 l) d
+
 -- one list of bytes behind the other
 reads_on : (p m : Reading) (xs a : List ℕ) → ReadsAll p xs m a → (m' q : Reading) (ys c : List ℕ) → ReadsAll m' ys q c → m ≡ m' → ReadsAll p (xs ++ ys) q (a ++ c)
 reads_on p m xs a r m' q ys c (nothing s) e = subst (λ (l : List ℕ). ReadsAll p (xs ++ []) m' l) (sym (append-nil a))
@@ -215,10 +256,7 @@ ran t e = record {
 
 -- ---- the code's forms
 
--- the next byte of a list, and all of them
-pub take_next : (l : List ℕ) (i : ℕ) → i < length l → take (i + 1) l ≡ take i l ++ (get_or l i 0 ∷ [])
-take_next l i h = let e : i + 1 ≡ suc i = omega arith in rw e (take-suc l i 0 h)
-
+-- all bytes of a list
 pub took_whole : {p : Reading} {xs : List ℕ} {k : SoFar} {buffer store : List ℕ} {lists : KeptLists} (i : ℕ) → length xs ≤ i → TookAll p (take i xs) k buffer store lists
     → TookAll p xs k buffer store lists
 took_whole {p} {xs} {k} {buffer} {store} {lists} i h t = subst (λ (l : List ℕ). TookAll p l k buffer store lists) (take_all i xs h) t

@@ -1,10 +1,11 @@
 // The input parted into lines. A line is counted without its line feed; the last one may lack it.
-ghost use Rattle.std.specs.Prelude.{[], ◌≡◌};
+ghost use Rattle.std.specs.Prelude.{ℕ, List, [], ◌++◌, ◌≡◌, ◌<◌, length, take};
 ghost use Rattle.printing.specs.Answers.{Answered};
-ghost use Rattle.events.specs.Input.{asked_in, has_line, started, HeldLine, Held, OfHeld, Said, Took, TookAll, TookSome, Ended, Ran};
+ghost use Rattle.events.specs.Input.{asked_in, has_line, Reading, started, HeldLine, Held, OfHeld, Said, Took, TookAll, TookSome, Ended, Ran, line_feed};
 
 use crate::so_far::{Length, SoFar};
 use keeping::kept::Lists;
+use lines::read::find;
 use std::io::{Read, Write};
 
 // The longest line that is read, and the longest answer with its line feed.
@@ -33,6 +34,24 @@ impl LineBuffer {
             bytes: [0u8; LINE],
             so_far: NOTHING,
         }
+    }
+
+    // More bytes of the line.
+    fn keep(&mut self, bytes: &[u8])
+        ensures { (line : List ℕ) → HeldLine self.old.so_far self.old.bytes line → HeldLine self.new.so_far self.new.bytes (line ++ bytes.now) }
+    {
+        let SoFar::Whole(len) = self.so_far else {
+            return;
+        };
+        let room = LINE - len.bytes;
+        let kept = bytes.len().min(room);
+        let end = len.bytes + kept;
+        self.bytes[len.bytes..end].copy_from_slice(&bytes[..kept]);
+        if room < bytes.len() {
+            self.so_far = SoFar::TooLong;
+            return;
+        }
+        self.so_far = SoFar::Whole(Length { bytes: end });
     }
 }
 
@@ -70,35 +89,46 @@ impl Session {
         end
     }
 
-    // One byte of the input.
-    fn take<W: Write>(&mut self, output: &mut W, store: &mut [u8], b: u8)
+    // A line feed: the line is answered, and none of the next is there.
+    fn end_line<W: Write>(&mut self, output: &mut W, store: &mut [u8])
         ensures { OfHeld self.old.line.so_far self.old.line.bytes store.old self.old.lists
-            (λ p. Took p b self.new.line.so_far self.new.line.bytes store.new self.new.lists self.new.out) }
+            (λ p. Took p line_feed self.new.line.so_far self.new.line.bytes store.new self.new.lists self.new.out) }
     {
-        if b == b'\n' {
-            self.answer(output, store);
-            self.line.so_far = NOTHING;
-            return;
+        self.answer(output, store);
+        self.line.so_far = NOTHING;
+    }
+
+    // The bytes from index `at` to the next line feed, and that line feed, if it is there: where the next begin.
+    // (At once: byte by byte, what came of the line so far would be stored for each.)
+    fn take_line<W: Write>(
+        &mut self,
+        output: &mut W,
+        store: &mut [u8],
+        bytes: &[u8],
+        at: usize,
+    ) -> usize
+        requires { at < length bytes.now }
+        ensures on { at < result }
+        ensures taken { (p : Reading) → TookAll p (take at bytes.now) self.old.line.so_far self.old.line.bytes store.old self.old.lists
+            → TookAll p (take result bytes.now) self.new.line.so_far self.new.line.bytes store.new self.new.lists }
+    {
+        let end = find(bytes, at, b'\n');
+        self.line.keep(&bytes[at..end]);
+        if end == bytes.len() {
+            return end;
         }
-        let SoFar::Whole(len) = self.line.so_far else {
-            return;
-        };
-        if len.bytes == LINE {
-            self.line.so_far = SoFar::TooLong;
-            return;
-        }
-        self.line.bytes[len.bytes] = b;
-        self.line.so_far = SoFar::Whole(Length {
-            bytes: len.bytes + 1,
-        });
+        self.end_line(output, store);
+        end + 1
     }
 
     fn take_all<W: Write>(&mut self, output: &mut W, store: &mut [u8], bytes: &[u8])
         ensures { OfHeld self.old.line.so_far self.old.line.bytes store.old self.old.lists
             (λ p. TookAll p bytes.now self.new.line.so_far self.new.line.bytes store.new self.new.lists) }
     {
-        for &b in bytes {
-            self.take(output, store, b);
+        let mut at = 0;
+        // No range: where a line ends shows only behind it.
+        while at < bytes.len() {
+            at = self.take_line(output, store, bytes, at);
         }
     }
 
