@@ -175,6 +175,10 @@ module _ {b b₁ : List ℕ} {a : Terms} {os : List Offer} {i j : ℕ} (x : Went
     pub went_kept : Kept b → Kept b₁
     went_kept k = part_kept a os i j x.table peer typed k
 
+    -- the next one by itself
+    pub went_one : {b₂ : List ℕ} → j < length os → Becomes b₁ b₂ (announced a (between j (j + 1) os)) → Went b b₂ a os i (j + 1)
+    went_one l y = record { from = omega (arith, x.from); inside = omega arith; table = part_join a os i j x.table peer typed (j + 1) x.from (omega arith) y }
+
     pub went_then : {b₂ : List ℕ} {k : ℕ} → j ≤ i → Announced b₁ b₂ a os i k → Announced b b₂ a os i k
     went_then {b₂} {k} h y =
         let e : i ≡ j = omega (arith, x.from) in

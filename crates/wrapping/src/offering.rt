@@ -9,13 +9,13 @@ ghost use Rattle.store.specs.Image.{Bytes};
 ghost use Rattle.store.specs.Shown.{Kept};
 ghost use Rattle.lent_lists.specs.Items.{offers_in};
 ghost use Rattle.requests.specs.Changes.{candidate_of, Tells};
-ghost use Rattle.announcing.specs.Falls.{VictimsIn};
+ghost use Rattle.announcing.specs.Falls.{most_listed, VictimsIn};
 ghost use Rattle.gathering.specs.Aside.{Empty};
 ghost use Rattle.claims.specs.Changes.{Becomes};
 ghost use Rattle.wrapping.specs.Batches.{between, announced, Offers, Collects, Announced};
 ghost use Rattle.wrapping.specs.Swaps.{Whole, Swaps, Went, Settled};
 
-use announcing::foremost::Victims;
+use announcing::foremost::{MOST, Victims};
 use gathering::beside::Fare;
 use gathering::rows::Waiting;
 use ident::connection::Connection;
@@ -148,6 +148,9 @@ fn announce_some(s: &mut [u8], b: Batch, first: usize) -> usize
 
 // ---- where L is held
 
+// So many victims are listed at least, if there are as many.
+const FEWEST: usize = 128;
+
 // Whether it is worth while to list victims for the items from the first on: they are preferred, L is held, and the first of them does not
 // have to take the place of another at its hash.
 fn displaces(s: &[u8], b: Batch, first: usize) -> bool
@@ -195,37 +198,50 @@ fn settle(s: &mut [u8], new: &mut Waiting, top: &Victims, b: Batch, first: usize
     next
 }
 
+// How many victims are listed for a part of a batch, if the last one took n items: more than these, since it is likely to take about as many. (A list that is
+// too long costs more than it spares, and so does a part that ends since its list does.)
+fn victims_for(n: usize) -> usize
+    ensures { (1 ≤ result) × (result ≤ most_listed) }
+{
+    (4 * n.min(MOST)).max(FEWEST).min(MOST)
+}
+
 // Announces some items from the first on, or none: the victims are found in one pass. Where nobody is left who can be evicted the other
-// items change nothing.
-fn announce_for_victims(s: &mut [u8], b: Batch, first: usize) -> usize
+// items change nothing. The next one, if there is one and a victim for it, is announced by itself: its victim is mostly the connection's own, and
+// would be the first of another list.
+fn announce_for_victims(s: &mut [u8], b: Batch, first: usize, last: usize) -> usize
     requires { Kept s.old × Whole s.old × (b.terms.preferred ≡ true) × (first < length (offers_in b.items.now b.priorities.now)) }
     ensures { Went s.old s.new b.entry.terms (offers_in b.entry.items.now b.entry.priorities.now) first result }
 {
     let count = b.count();
     let mut top = Victims::none();
-    let most = (count - first).min(announcing::foremost::MOST);
+    let most = (count - first).min(victims_for(last));
     top.list(s, most);
     let m = top.count;
     if m == 0 {
         return count;
     }
     let mut new = Waiting::none();
-    let next = settle(s, &mut new, &top, b, first);
+    let end = settle(s, &mut new, &top, b, first);
     if (new.count == m) & (m < most) {
         return count;
     }
-    next
+    if (new.count < m) & (end < count) {
+        announce_one(s, b, end);
+        return end + 1;
+    }
+    end
 }
 
-// Announces items from the first on, one at least. Answers which comes next.
-fn announce_part(s: &mut [u8], b: Batch, first: usize) -> usize
+// Announces items from the first on, one at least; the part before took `last`. Answers which comes next.
+fn announce_part(s: &mut [u8], b: Batch, first: usize, last: usize) -> usize
     requires { Kept s.old × (first < length (offers_in b.items.now b.priorities.now)) }
     ensures { Announced s.old s.new b.entry.terms (offers_in b.entry.items.now b.entry.priorities.now) first result }
 {
     if !displaces(s, b, first) {
         return announce_some(s, b, first);
     }
-    let next = announce_for_victims(s, b, first);
+    let next = announce_for_victims(s, b, first, last);
     if first < next {
         return next;
     }
@@ -263,9 +279,12 @@ pub fn announce_transactions(
     if count == 0 {
         return;
     }
-    let mut i = announce_part(s, b, 0);
+    let mut i = announce_part(s, b, 0, count);
+    let mut last = i;
     // No range: how many items a part takes shows only behind it.
     while i < count {
-        i = announce_part(s, b, i);
+        let next = announce_part(s, b, i, last);
+        last = next - i;
+        i = next;
     }
 }

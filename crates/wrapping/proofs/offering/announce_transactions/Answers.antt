@@ -14,8 +14,8 @@ returns-then-count-eq0 c =
     let a : Terms = record { connection = c.args.n; clock = c.args.clock; preferred = c.args.preferred; source = c.args.source; late = c.overloaded-late.result } in
     batched_done (batched_start a _ _) (omega (arith, c.if-count-eq0.true, c.count-count.ensures))
 
-pub announce_part-i-requires-in-loop-i : goal.announce_part-i-requires-in-loop-i
-announce_part-i-requires-in-loop-i c =
+pub announce_part-next-requires : goal.announce_part-next-requires
+announce_part-next-requires c =
     let a : Terms = record { connection = c.args.n; clock = c.args.clock; preferred = c.args.preferred; source = c.args.source; late = c.overloaded-late.result } in
     let os = offers_in c.args.items.now c.args.priorities.now in
     let peer = peer_of c.args.n (omega arith) in
@@ -32,9 +32,9 @@ loop-i-preserved c =
     let peer = peer_of c.args.n (omega arith) in
     let typed : Each OfferTyped os = offers-fit c.args.items.now c.args.priorities.now
     (λ j. omega (arith, c.type_inv.items j)) (λ j. omega (arith, c.type_inv.priorities j)) in (
-      c.announce_part-i-in-loop-i.auto.s ∙ c.loop-i.invariant.0,
-      c.announce_part-i-in-loop-i.ensures.inside,
-      λ u f b. batched_more (c.loop-i.invariant.2 u f b) peer typed f c.announce_part-i-in-loop-i.ensures c.announce_part-i-in-loop-i.auto.s,
+      c.announce_part-next.auto.s ∙ c.loop-i.invariant.0,
+      c.announce_part-next.ensures.inside,
+      λ u f b. batched_more (c.loop-i.invariant.2 u f b) peer typed f c.announce_part-next.ensures c.announce_part-next.auto.s,
     )
 
 pub returns : goal.returns
