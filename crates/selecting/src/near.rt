@@ -13,6 +13,7 @@ use std::ops::Bound;
 use store::layout;
 
 // The guess, if the row before it falls short; otherwise the first row.
+#[inline(always)]
 fn begin_at(s: &[u8], n: usize, start: Bound<regions::Key>, guess: usize) -> usize
     requires { 8 * (row_size * n) ≤ length s.now }
     ensures { Behind (recs row_size row_key n (words s.now)) n (start_number start) result }
@@ -38,6 +39,7 @@ fn ahead(wide: usize, step: usize) -> usize
 // The first of n rows whose key does not stand before `start`, or n. By hand, since it begins at a guess: from there on the steps
 // double, then what is left is halved, so that a walk pays for the rows between two hashes; `regions::lower_bound` would halve all of them, and so would
 // `regions::near` where the guess is not what is sought.
+#[inline(always)]
 fn seek_in(s: &[u8], n: usize, start: Bound<regions::Key>, guess: usize) -> usize
     requires { 8 * (row_size * n) ≤ length s.now }
     ensures { Sought (recs row_size row_key n (words s.now)) n (start_number start) result }
@@ -58,7 +60,9 @@ fn seek_in(s: &[u8], n: usize, start: Bound<regions::Key>, guess: usize) -> usiz
     lo
 }
 
-// What store::rows::seek_row answers.
+// What store::rows::seek_row answers. (Inlined, and with it what it calls: each of its two calls gives a bound of one form, which would else be asked for at every row
+// that is compared.)
+#[inline(always)]
 fn seek_near(s: &[u8], start: Bound<regions::Key>, guess: usize) -> usize
     requires { Shown s.now }
     ensures { Seek s.now (λ f. row_numbers f.rows) (rows_in s.now) (start_number start) result }
