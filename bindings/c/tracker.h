@@ -24,7 +24,7 @@
  * significant. BOOL: 0 or 1, as C makes of any number; of another value, which only a wrong declaration passes, nothing is promised. Times
  * are milliseconds of any clock, which may go back.
  *
- * LINKING, on x86-64: bindings/build writes target/lib/libtracker.a, position independent, which wants memset and memmove.
+ * LINKING, on x86-64: bindings/build writes target/lib/libtracker.a, position independent, which wants memcpy, memmove and memset.
  *
  *     cc -std=c99 -I tracker/bindings/c node.c tracker/target/lib/libtracker.a -o node
  *

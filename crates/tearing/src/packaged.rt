@@ -49,7 +49,7 @@ fn hash_before(s: &[u8], i: usize) -> Quad
     p.hash
 }
 
-// The i-th place, or behind the last. (By the word: a package's stages are those from AWAITING on, as in `tear_place`.)
+// The i-th place, or behind the last. (By the word: a package's stages are those from AWAITING on, as for `count_packages`.)
 pub fn reach(s: &[u8], i: usize) -> Reached
     requires { Shown s.now × (i ≤ held_places_in s.now) }
     ensures at { result.at ≡ i }
