@@ -207,8 +207,8 @@ fn victims_for(n: usize) -> usize
 }
 
 // Announces some items from the first on, or none: the victims are found in one pass. Where nobody is left who can be evicted the other
-// items change nothing. The next one, if there is one and a victim for it, is announced by itself: its victim is mostly the connection's own, and
-// would be the first of another list.
+// items change nothing. The item that ended the part, if a victim is left for it, is announced by itself at once: one that has a listed victim at its hash, or for which
+// the next victim is its connection's own, would mostly be the first of another part and end that too.
 fn announce_for_victims(s: &mut [u8], b: Batch, first: usize, last: usize) -> usize
     requires { Kept s.old × Whole s.old × (b.terms.preferred ≡ true) × (first < length (offers_in b.items.now b.priorities.now)) }
     ensures { Went s.old s.new b.entry.terms (offers_in b.entry.items.now b.entry.priorities.now) first result }
